@@ -180,9 +180,11 @@ shownAs from at (configuration c v r) = nothing
 unfoldable pub storePlace : Identity → State → ℕ → ℕ
 storePlace i s index = 4096 * orZero (λ p. p) (placeOf i (s .replicas)) + 64 * place (replicaOf i s) index
 
+-- The index as a preparation shows it; nothing where it is refused.
+unfoldable pub shownIn : Identity → State → Batch → Result Preview → ℕ → Shown
+shownIn i s b (refusal n) index = nothing
+shownIn i s b (ok v) index =
+    elim (at (v .log) index) [ none ↦ nothing | some e ↦ shownAs (supplied index (b .entries)) (storePlace i s index) (e .payload) ]
+
 unfoldable pub previewedAt : Recovery → Identity → Batch → ℕ → Shown
-previewedAt w i b index =
-    elim (prepare w i b) [
-      | refusal n ↦ nothing
-      | ok v ↦ elim (at (v .log) index) [ none ↦ nothing | some e ↦ shownAs (supplied index (b .entries)) (storePlace i (w .state) index) (e .payload) ]
-    ]
+previewedAt w i b index = shownIn i (w .state) b (prepare w i b) index

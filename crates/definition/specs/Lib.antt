@@ -5,3 +5,4 @@ pub mod Log
 pub mod Recovery
 pub mod Batch
 pub mod Two
+pub mod Cases

@@ -1,0 +1,125 @@
+-- The store: the bytes that records leave, stores that are not sound, and whole calls over a state with its store.
+-- Assumes nothing.
+use Prim.Native.Nat.{ℕ, zero, suc, _+_, _*_}
+use mathlib.Core.Bool.{Bool, true, false, _&&_, not}
+use mathlib.Core.List.{List, [], _∷_, _++_, map}
+use mathlib.Core.Option.{Option, none, some}
+use lib.ListN.{length, replicate, take, drop}
+use lib.Dec.{T}
+use Rattle.definition.specs.Table.{_=?_, every, Result, ok, refusal, if_then_else_, u64-max, sameBytes}
+use Rattle.definition.specs.Records.{Identity, Payload, normal, configuration, addLearner, inside, outside, HardState, Pointer, entry, pointer, Record, formRows}
+use Rattle.definition.specs.Frontier.{RaftProgress}
+use Rattle.definition.specs.Log.{Entry, Log, Answer, appended, idempotentReplay, kept, counted, finished, refused, empty, base, count, snapshotBoundary, lastIndex, last, place, at, isHeld, predecessorTerm, sameTerm, sameContent, hardStateSuccessorRows, snapshotSuccessorRows, replayRows, installRows, rows, answerTo, placed, withEntry, withHardState, beyond, raisedBy, withPointer, accept, largestTerm, maximumObservedTerm, normalizedTo, normalizedHardState, withHard, normalizeHardStateTerm}
+use Rattle.definition.specs.Recovery.{Held, held, Out, State, Recovery, freshState, fresh, lookup, put, keep, ascending, judged, settled, admitted, visit, logClauses, keptLsns, heldClauses, stateClauses, soundState, padded, block, layout, soundStore, sound, scan, routed, guarded, observeState, normalized, normalizedState, finishState, stored, withStore, observe, finish, answers, observed, observeUntilRefused, ask, replicaOf, replicaAt}
+use Rattle.definition.specs.Cases.Samples.{one, of, id, byte, logEntry, hardOf, pointerOf, snapshotAt, E, Ep, H, P, F, upTo, kE, kEp, logOf, plainLog, noLog, stateOf, only, sameOption, sameNumber, sameList, sameState, sameAnswer, replaced}
+
+-- Stores: zeros, with bytes written from a place on.
+writes : List (ℕ × List ℕ) → List ℕ
+writes [] = replicate 32768 0
+writes ((at, bytes) ∷ more) = take at (writes more) ++ bytes ++ drop (at + length bytes) (writes more)
+
+record Stored : Type 0 where
+  before : Recovery
+  observedRecord : Record
+  expected : Answer
+  after : List ℕ
+
+-- A record observed in a state over a store.
+onStore : State → List ℕ → Record → Answer → List ℕ → Stored
+onStore s store r a store′ = record { before = record { state = s; store = store }; observedRecord = r; expected = a; after = store′ }
+
+-- Refused by 1: the state and the store stay as they were.
+stays : State → List ℕ → Record → Stored
+stays s store r = onStore s store r (refused 1) store
+
+stores : Stored → Bool
+stores c =
+    let o = observe (c .before) (c .observedRecord) in
+    sameAnswer (o .answer) (c .expected) && sameBytes (o .next .store) (c .after)
+    && (if answerIs1 (c .expected) then sameState (o .next .state) (c .before .state) else true)
+  where
+    answerIs1 : Answer → Bool
+    answerIs1 a = sameAnswer a (refused 1)
+
+command : List ℕ → Payload
+command bytes = normal (inside bytes)
+
+-- Two replicas: three entries and one.
+two : State
+two =
+    stateOf
+    (held (id 1 1) (plainLog (kEp 1 1 (command (1 ∷ 2 ∷ [])) ∷ kEp 1 2 (configuration addLearner 1 1) ∷ kEp 1 3 (command (3 ∷ [])) ∷ []) (some 3))
+    ∷ held (id 1 3) (plainLog (kEp 1 4 (command (4 ∷ [])) ∷ []) (some 4)) ∷ []) 4 (some 4)
+
+storeOfTwo : List ℕ
+storeOfTwo = writes ((0, 1 ∷ 2 ∷ []) ∷ (128, 3 ∷ []) ∷ (4096, 4 ∷ []) ∷ [])
+
+storing : List Stored
+storing =
+    -- an append: byte 4,096 × 1 + 64 × 1
+    onStore two storeOfTwo (of (id 1 3) 5 (entry 1 (logEntry 2 1 (command (5 ∷ 6 ∷ []))))) appended (writes ((0, 1 ∷ 2 ∷ []) ∷ (128, 3 ∷ []) ∷ (4096, 4 ∷ []) ∷ (4160, 5 ∷ 6 ∷ []) ∷ []))
+    -- a replacement clears what it cuts
+    ∷ onStore two storeOfTwo (of (id 1 1) 5 (entry 1 (logEntry 1 2 (command (7 ∷ []))))) (replaced 3) (writes ((0, 7 ∷ []) ∷ (4096, 4 ∷ []) ∷ []))
+    -- a pointer drops, and the rest moves down
+    ∷ onStore two storeOfTwo (of (id 1 1) 5 (pointer (snapshotAt 2 1))) kept (writes ((0, 3 ∷ []) ∷ (4096, 4 ∷ []) ∷ []))
+    -- a new replica between: the blocks after it move up, also where its record is refused
+    ∷ onStore two storeOfTwo (of (id 1 2) 5 (entry 1 (logEntry 2 1 (command (7 ∷ []))))) (refused 28) (writes ((0, 1 ∷ 2 ∷ []) ∷ (128, 3 ∷ []) ∷ (8192, 4 ∷ []) ∷ []))
+    -- a form refusal, and a record of no Raft kind, leave it
+    ∷ onStore two storeOfTwo (of (id 1 2) 5 (entry 2 (logEntry 1 1 (command (7 ∷ []))))) (refused 5) storeOfTwo
+    ∷ onStore two storeOfTwo (F 5) counted storeOfTwo
+    -- not sound: the length, a byte of no held command (behind a command, of a configuration, of a free place, of a free block), a wrong byte
+    ∷ stays two (take 32767 storeOfTwo) (F 5)
+    ∷ stays two (storeOfTwo ++ 0 ∷ []) (F 5)
+    ∷ stays two [] (F 5)
+    ∷ stays two (writes ((0, 1 ∷ 2 ∷ 9 ∷ []) ∷ (128, 3 ∷ []) ∷ (4096, 4 ∷ []) ∷ [])) (F 5)
+    ∷ stays two (writes ((0, 1 ∷ 2 ∷ []) ∷ (64, 9 ∷ []) ∷ (128, 3 ∷ []) ∷ (4096, 4 ∷ []) ∷ [])) (F 5)
+    ∷ stays two (writes ((0, 1 ∷ 2 ∷ []) ∷ (128, 3 ∷ []) ∷ (4095, 9 ∷ 4 ∷ []) ∷ [])) (F 5)
+    ∷ stays two (writes ((0, 1 ∷ 2 ∷ []) ∷ (128, 3 ∷ []) ∷ (4096, 4 ∷ []) ∷ (32767, 9 ∷ []) ∷ [])) (F 5)
+    ∷ stays (stateOf [] u64-max none) (writes []) (F 5)
+    ∷ []
+
+each-store : T (every stores storing)
+unfolding writes onStore stays stores command two storeOfTwo storing formRows empty base count snapshotBoundary lastIndex last place at isHeld predecessorTerm sameTerm sameContent hardStateSuccessorRows snapshotSuccessorRows replayRows installRows rows answerTo placed withEntry withHardState beyond raisedBy withPointer accept lookup put keep ascending judged settled admitted visit logClauses keptLsns heldClauses stateClauses soundState scan routed guarded observeState padded block layout soundStore stored withStore observe
+each-store = tt
+
+-- Finishing, a chunk until its first refusal, and the readers, over a fresh recovery and over a store that is not sound.
+short : Recovery
+short = record { state = freshState; store = [] }
+
+seven : List Record
+seven = E 1 1 1 ∷ F 2 ∷ E 3 3 1 ∷ E 4 2 1 ∷ []
+
+isRefusal : {A : Type 0} → ℕ → Result A → Bool
+isRefusal n (ok a) = false
+isRefusal n (refusal m) = m =? n
+
+reads : {A : Type 0} → (A → Bool) → Result A → Bool
+reads p (ok a) = p a
+reads p (refusal m) = false
+
+whole-calls : List Bool
+whole-calls =
+    let c = observeUntilRefused fresh seven in
+    let d = observeUntilRefused fresh (E 1 1 1 ∷ F 2 ∷ []) in
+    (c .taken =? 2)
+    ∷ sameOption sameNumber (c .ended) (some 30)
+    ∷ sameState (c .left .state) (only (plainLog (kE 1 1 ∷ []) (some 1)) 3 (some 3))
+    ∷ sameBytes (c .left .store) (writes ((0, 65 ∷ []) ∷ []))
+    ∷ (d .taken =? 2)
+    ∷ sameOption sameNumber (d .ended) none
+    ∷ sameState (d .left .state) (only (plainLog (kE 1 1 ∷ []) (some 1)) 2 (some 2))
+    ∷ sameState (finish (d .left) .next .state) (only (logOf (kE 1 1 ∷ []) 0 0 0 (some 1) (some (hardOf 1 none 0)) none none none) 2 (some 2))
+    ∷ sameBytes (finish (d .left) .next .store) (d .left .store)
+    ∷ sameAnswer (finish (d .left) .answer) finished
+    ∷ sameAnswer (finish short .answer) (refused 1)
+    ∷ sameList sameAnswer (answers short (F 1 ∷ [])) (refused 1 ∷ [])
+    ∷ sound fresh
+    ∷ not (sound short)
+    ∷ reads (λ n. n =? 1) (ask (λ s. length (s .replicas)) (d .left))
+    ∷ isRefusal 1 (ask (λ s. length (s .replicas)) short)
+    ∷ isRefusal 1 (ask (λ s. length (s .replicas)) (record { state = stateOf [] u64-max none; store = replicate 32768 0 }))
+    ∷ []
+
+each-whole-call : T (every (λ b. b) whole-calls)
+unfolding writes short seven isRefusal reads whole-calls fresh freshState formRows empty base count snapshotBoundary lastIndex last place at isHeld predecessorTerm sameTerm sameContent hardStateSuccessorRows snapshotSuccessorRows replayRows installRows rows answerTo placed withEntry withHardState beyond raisedBy withPointer accept lookup put keep ascending judged settled admitted visit logClauses keptLsns heldClauses stateClauses soundState sound scan routed guarded observeState padded block layout soundStore stored withStore observe largestTerm maximumObservedTerm normalizedTo normalizedHardState withHard normalizeHardStateTerm normalized normalizedState finishState finish answers observeUntilRefused ask
+each-whole-call = tt
