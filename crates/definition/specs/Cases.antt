@@ -6,4 +6,6 @@ pub mod Effects
 pub mod Soundness
 pub mod Checks
 pub mod Batches
+pub mod TwoLists
+pub mod Readers
 pub mod Store
