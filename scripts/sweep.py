@@ -65,7 +65,7 @@ def changes(line, lines, k):
         yield line[:m.start(2)] + 'false', 'row off'
     yield from each(r'<\?', '≤?', 'test')
     yield from each(r'≤\?', '<?', 'test')
-    yield from each(r'(?<!≠)=\?', '≤?', 'test')
+    yield from each(r'(?<!≠)=\?(?! 0\b)', '≤?', 'test')      # a ≤? 0 is a =? 0
     yield from each(r'(?<!≠)=\?', '≠?', 'test')
     yield from each(r'≠\?', '<?', 'test')
     yield from each(r'&&', '||', 'test')

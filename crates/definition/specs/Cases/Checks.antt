@@ -6,10 +6,10 @@ use mathlib.Core.List.{List, [], _∷_, _++_}
 use mathlib.Core.Option.{Option, none, some}
 use lib.Dec.{T}
 use Rattle.definition.specs.Table.{_=?_, every, Result, ok, refusal, u64-max}
-use Rattle.definition.specs.Records.{HardState, Pointer}
+use Rattle.definition.specs.Records.{HardState, Checksum}
 use Rattle.definition.specs.Frontier.{RaftProgress, progressRows, progressSuccessorRows, newProgress, validateProgress, validateProgressSuccessor}
 use Rattle.definition.specs.Log.{PointerRecord, hardStateSuccessorRows, validateHardStateSuccessor, snapshotSuccessorRows, validateSnapshotSuccessor}
-use Rattle.definition.specs.Cases.Samples.{id, hardOf, pointerOf, sameOption, sameNumber, sameProgress}
+use Rattle.definition.specs.Cases.Samples.{id, hardOf, sameOption, sameNumber, sameProgress}
 
 accepts : Option ℕ → Bool
 accepts o = sameOption sameNumber o none
@@ -58,6 +58,11 @@ progress =
     ∷ accepts (validateProgressSuccessor (p 5 2 5) (p 5 2 5))
     ∷ accepts (validateProgressSuccessor (p 6 1 6) (p 5 2 6))
     ∷ accepts (validateProgressSuccessor (p 5 2 7) (p 0 9 0))
+    -- truncation at the predecessor's applied index, and beyond its own
+    ∷ accepts (validateProgressSuccessor (p 6 2 9) (p 5 2 9))
+    ∷ refuses 55 (validateProgressSuccessor (p 6 2 6) (p 5 2 9))
+    ∷ refuses 54 (validateProgressSuccessor (p 5 2 9) (p 6 2 9))
+    ∷ refuses 56 (validateProgressSuccessor (p 5 3 9) (p 5 2 7))
     ∷ accepts (validateProgressSuccessor (p 5 2 5) (p 3 0 1))
     ∷ []
 
@@ -84,32 +89,71 @@ hards =
     ∷ accepts (hard (some (hardOf 0 none 0)) (hardOf 1 none 0))
     ∷ []
 
-pointed : ℕ → ℕ → Pointer → PointerRecord
-pointed g r x = record { identity = id g r; snapshot = x }
+-- A pointer record by group, replica, version, snapshot ID, index, term, applied, size, rest and checksum.
+pointed : ℕ → ℕ → ℕ → ℕ → ℕ → ℕ → ℕ → ℕ → ℕ → Checksum → PointerRecord
+pointed g r version snapshot index term applied size rest sum =
+    record {
+      identity = id g r;
+      snapshot =
+          record {
+            version = version;
+            snapshotId = snapshot;
+            lastIncludedIndex = index;
+            lastIncludedTerm = term;
+            appliedIndex = applied;
+            sizeBytes = size;
+            rest = rest;
+            checksum = sum;
+          };
+    }
+
+sum : ℕ → ℕ → ℕ → ℕ → Checksum
+sum a b c d = record { a = a; b = b; c = c; d = d }
 
 five : PointerRecord
-five = pointed 1 1 (pointerOf 1 7 5 2 5 1 1 1)
+five = pointed 1 1 1 7 5 2 5 3 4 (sum 1 2 3 4)
 
 next : PointerRecord → Option ℕ
 next = validateSnapshotSuccessor (some five)
 
+-- Each field below the previous pointer's, and above it.
+differing : List PointerRecord
+differing =
+    pointed 0 1 1 7 5 2 5 3 4 (sum 1 2 3 4)
+    ∷ pointed 2 1 1 7 5 2 5 3 4 (sum 1 2 3 4)
+    ∷ pointed 1 0 1 7 5 2 5 3 4 (sum 1 2 3 4)
+    ∷ pointed 1 2 1 7 5 2 5 3 4 (sum 1 2 3 4)
+    ∷ pointed 1 1 0 7 5 2 5 3 4 (sum 1 2 3 4)
+    ∷ pointed 1 1 2 7 5 2 5 3 4 (sum 1 2 3 4)
+    ∷ pointed 1 1 1 6 5 2 5 3 4 (sum 1 2 3 4)
+    ∷ pointed 1 1 1 8 5 2 5 3 4 (sum 1 2 3 4)
+    ∷ pointed 1 1 1 7 5 1 5 3 4 (sum 1 2 3 4)
+    ∷ pointed 1 1 1 7 5 3 5 3 4 (sum 1 2 3 4)
+    ∷ pointed 1 1 1 7 5 2 4 3 4 (sum 1 2 3 4)
+    ∷ pointed 1 1 1 7 5 2 6 3 4 (sum 1 2 3 4)
+    ∷ pointed 1 1 1 7 5 2 5 2 4 (sum 1 2 3 4)
+    ∷ pointed 1 1 1 7 5 2 5 4 4 (sum 1 2 3 4)
+    ∷ pointed 1 1 1 7 5 2 5 3 3 (sum 1 2 3 4)
+    ∷ pointed 1 1 1 7 5 2 5 3 5 (sum 1 2 3 4)
+    ∷ pointed 1 1 1 7 5 2 5 3 4 (sum 0 2 3 4)
+    ∷ pointed 1 1 1 7 5 2 5 3 4 (sum 2 2 3 4)
+    ∷ pointed 1 1 1 7 5 2 5 3 4 (sum 1 1 3 4)
+    ∷ pointed 1 1 1 7 5 2 5 3 4 (sum 1 3 3 4)
+    ∷ pointed 1 1 1 7 5 2 5 3 4 (sum 1 2 2 4)
+    ∷ pointed 1 1 1 7 5 2 5 3 4 (sum 1 2 4 4)
+    ∷ pointed 1 1 1 7 5 2 5 3 4 (sum 1 2 3 3)
+    ∷ pointed 1 1 1 7 5 2 5 3 4 (sum 1 2 3 5)
+    ∷ []
+
 pointers : List Bool
 pointers =
-    accepts (validateSnapshotSuccessor none (pointed 0 0 (pointerOf 0 0 0 0 0 0 0 0)))
+    accepts (validateSnapshotSuccessor none (pointed 0 0 0 0 0 0 0 0 0 (sum 0 0 0 0)))
     ∷ accepts (next five)
-    ∷ accepts (next (pointed 2 2 (pointerOf 2 8 6 1 7 2 2 2)))
-    ∷ refuses 39 (next (pointed 1 1 (pointerOf 1 7 4 2 4 1 1 1)))
-    ∷ refuses 40 (next (pointed 2 1 (pointerOf 1 7 5 2 5 1 1 1)))
-    ∷ refuses 40 (next (pointed 1 2 (pointerOf 1 7 5 2 5 1 1 1)))
-    ∷ refuses 40 (next (pointed 1 1 (pointerOf 2 7 5 2 5 1 1 1)))
-    ∷ refuses 40 (next (pointed 1 1 (pointerOf 1 8 5 2 5 1 1 1)))
-    ∷ refuses 40 (next (pointed 1 1 (pointerOf 1 7 5 3 5 1 1 1)))
-    ∷ refuses 40 (next (pointed 1 1 (pointerOf 1 7 5 2 6 1 1 1)))
-    ∷ refuses 40 (next (pointed 1 1 (pointerOf 1 7 5 2 5 2 1 1)))
-    ∷ refuses 40 (next (pointed 1 1 (pointerOf 1 7 5 2 5 1 2 1)))
-    ∷ refuses 40 (next (pointed 1 1 (pointerOf 1 7 5 2 5 1 1 2)))
+    ∷ accepts (next (pointed 2 2 2 8 6 1 7 2 2 (sum 4 3 2 1)))
+    ∷ refuses 39 (next (pointed 1 1 1 7 4 2 4 3 4 (sum 1 2 3 4)))
+    ∷ every (λ p. refuses 40 (next p)) differing
     ∷ []
 
 each-check : T (every (λ b. b) (progress ++ hards ++ pointers))
-unfolding accepts refuses p makes fails progress hard hards pointed five next pointers progressRows progressSuccessorRows newProgress validateProgress validateProgressSuccessor hardStateSuccessorRows validateHardStateSuccessor snapshotSuccessorRows validateSnapshotSuccessor
+unfolding accepts refuses p makes fails progress hard hards pointed sum five next differing pointers progressRows progressSuccessorRows newProgress validateProgress validateProgressSuccessor hardStateSuccessorRows validateHardStateSuccessor snapshotSuccessorRows validateSnapshotSuccessor
 each-check = tt
