@@ -167,10 +167,10 @@ soundState s = all-of (stateClauses s)
 
 -- The store: 64 bytes for each entry place, 64 places for each replica place, 8 of these. The bytes of a held command stand at
 -- its place; all others are zero.
-unfoldable pub padded : ℕ → List ℕ → List ℕ
-padded zero l = []
-padded (suc n) [] = 0 ∷ padded n []
-padded (suc n) (x ∷ l) = x ∷ padded n l
+unfoldable pub padTo : ℕ → List ℕ → List ℕ
+padTo zero l = []
+padTo (suc n) [] = 0 ∷ padTo n []
+padTo (suc n) (x ∷ l) = x ∷ padTo n l
 
 abbrev pub joined : {A : Type 0} → (A → List ℕ) → List A → List ℕ
 joined f [] = []
@@ -183,10 +183,10 @@ commandBytes (configuration c v r) = []
 
 module _ {T : Type 0} where
   unfoldable pub block : Log T → List ℕ
-  block log = padded 4096 (joined (λ e. padded 64 (commandBytes (e .payload))) (log .entries))
+  block log = padTo 4096 (joined (λ e. padTo 64 (commandBytes (e .payload))) (log .entries))
 
   unfoldable pub layout : List (Held (Log T)) → List ℕ
-  layout l = padded 32768 (joined (λ a. block (a .log)) l)
+  layout l = padTo 32768 (joined (λ a. block (a .log)) l)
 
 -- A recovery: its state, and the command store lent with it.
 pub record Recovery : Type 0 where

@@ -9,8 +9,8 @@ use lib.Dec.{T}
 use Rattle.definition.specs.Table.{_=?_, every, Result, ok, refusal, u64-max}
 use Rattle.definition.specs.Records.{Identity, same, Payload, normal, configuration, addLearner, inside, outside, samePayload, LogEntry, HardState, Pointer, samePointer, Kind, entry, hardState, pointer}
 use Rattle.definition.specs.Log.{Entry, Log, PointerRecord, empty, base, count, snapshotBoundary, lastIndex, last, place, at, isHeld, predecessorTerm, sameTerm, sameContent, hardStateSuccessorRows, replayRows, placed, withEntry, beyond, raisedBy, withPointer, withHard, largestTerm, maximumObservedTerm}
-use Rattle.definition.specs.Recovery.{Held, held, State, Recovery, lookup, placeOf, ascending, logClauses, keptLsns, heldClauses, stateClauses, soundState, padded, block, layout, soundStore, ask, replicaOf}
-use Rattle.definition.specs.Batch.{BatchEntry, Batch, Prepared, Preview, batchRows, batchPointerRows, batchEntryRows, batchHardStateRows, concluded, hardened, extended, pointed, prepareOn, prepare, Shown, nothing, ofLog, ofBatch, storePlace, shownIn, previewedAt}
+use Rattle.definition.specs.Recovery.{held, State, lookup, placeOf, replicaOf}
+use Rattle.definition.specs.Batch.{BatchEntry, Batch, Prepared, Preview, batchRows, batchPointerRows, batchEntryRows, batchHardStateRows, concluded, hardened, extended, pointed, prepareOn, Shown, nothing, ofLog, ofBatch, storePlace, shownIn}
 use Rattle.definition.specs.Cases.Samples.{one, id, byte, logEntry, hardOf, pointerOf, snapshotAt, upTo, kE, kEp, logOf, plainLog, noLog, stateOf, only, sameHard, sameList, sameLog}
 
 -- Batches. A batch entry's command begins at a byte of the lent bytes.
@@ -303,28 +303,3 @@ showing =
 each-shown : T (every (λ b. b) showing)
 unfolding e ep lent batch p h shownState sameShown shows p2 showing lookup placeOf replicaOf storePlace shownIn batchRows batchPointerRows batchEntryRows batchHardStateRows concluded hardened extended pointed prepareOn empty base count snapshotBoundary lastIndex last place at isHeld predecessorTerm sameTerm sameContent hardStateSuccessorRows replayRows placed withEntry beyond raisedBy withPointer withHard largestTerm maximumObservedTerm
 each-shown = tt
-
--- Over a state with its store: 1 before all others, an identity not held while 8 are, the command shown.
-eight : State
-eight = stateOf (upTo (λ n. held (id 1 n) noLog) 8) 8 (some 8)
-
-code : Result Preview → ℕ
-code (ok v) = 1000 + length (v .records)
-code (refusal n) = n
-
-over : State → ℕ → Recovery
-over s n = record { state = s; store = replicate n 0 }
-
-preparing : List Bool
-preparing =
-    (code (prepare (over eight 32768) (id 2 1) (batch none (e 1 1 ∷ []) (h 1 none 1))) =? 1002)
-    ∷ (code (prepare (over eight 32767) (id 0 0) (batch none [] none)) =? 1)
-    ∷ (code (prepare (over (stateOf [] u64-max none) 32768) (id 0 0) (batch none [] none)) =? 1)
-    ∷ (code (prepare (over (only (plainLog (kEp 1 1 (normal (inside [])) ∷ []) none) 1 (some 1)) 32768) one (batch none [] none)) =? 50)
-    ∷ sameShown (previewedAt (over eight 32768) (id 1 2) (batch none (lent 1 1 70 ∷ []) (h 1 none 1)) 1) (ofBatch 70 1)
-    ∷ sameShown (previewedAt (over eight 32767) (id 1 2) (batch none (lent 1 1 70 ∷ []) (h 1 none 1)) 1) nothing
-    ∷ []
-
-each-prepare : T (every (λ b. b) preparing)
-unfolding e ep lent batch p h sameShown eight code over preparing lookup placeOf replicaOf storePlace shownIn previewedAt prepare ask padded block layout soundStore ascending logClauses keptLsns heldClauses stateClauses soundState batchRows batchPointerRows batchEntryRows batchHardStateRows concluded hardened extended pointed prepareOn empty base count snapshotBoundary lastIndex last place at isHeld predecessorTerm sameTerm sameContent hardStateSuccessorRows replayRows placed withEntry beyond raisedBy withPointer withHard largestTerm maximumObservedTerm
-each-prepare = tt

@@ -10,7 +10,7 @@ use Rattle.definition.specs.Table.{_=?_, every, Result, ok, refusal, if_
 use Rattle.definition.specs.Records.{Identity, Payload, normal, configuration, addLearner, inside, outside, HardState, Pointer, entry, pointer, Record, formRows}
 use Rattle.definition.specs.Frontier.{RaftProgress}
 use Rattle.definition.specs.Log.{Entry, Log, Answer, appended, idempotentReplay, kept, counted, finished, refused, empty, base, count, snapshotBoundary, lastIndex, last, place, at, isHeld, predecessorTerm, sameTerm, sameContent, hardStateSuccessorRows, snapshotSuccessorRows, replayRows, installRows, rows, answerTo, placed, withEntry, withHardState, beyond, raisedBy, withPointer, accept, largestTerm, maximumObservedTerm, normalizedTo, normalizedHardState, withHard, normalizeHardStateTerm}
-use Rattle.definition.specs.Recovery.{Held, held, Out, State, Recovery, freshState, fresh, lookup, put, keep, ascending, judged, settled, admitted, visit, logClauses, keptLsns, heldClauses, stateClauses, soundState, padded, block, layout, soundStore, sound, scan, routed, guarded, observeState, normalized, normalizedState, finishState, stored, withStore, observe, finish, answers, observed, observeUntilRefused, ask, replicaOf, replicaAt}
+use Rattle.definition.specs.Recovery.{Held, held, Out, State, Recovery, freshState, fresh, lookup, put, keep, ascending, judged, settled, admitted, visit, logClauses, keptLsns, heldClauses, stateClauses, soundState, padTo, block, layout, soundStore, sound, scan, routed, guarded, observeState, normalized, normalizedState, finishState, stored, withStore, observe, finish, answers, observed, observeUntilRefused, ask, replicaOf, replicaAt}
 use Rattle.definition.specs.Cases.Samples.{one, of, id, byte, logEntry, hardOf, pointerOf, snapshotAt, E, Ep, H, P, F, upTo, kE, kEp, logOf, plainLog, noLog, stateOf, only, sameOption, sameNumber, sameList, sameState, sameAnswer, replaced}
 
 -- The state is refused, by observing and by finishing, and stays; or it is not.

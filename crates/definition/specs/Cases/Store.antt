@@ -10,7 +10,8 @@ use Rattle.definition.specs.Table.{_=?_, every, Result, ok, refusal, if_
 use Rattle.definition.specs.Records.{Identity, Payload, normal, configuration, addLearner, inside, outside, HardState, Pointer, entry, pointer, Record, formRows}
 use Rattle.definition.specs.Frontier.{RaftProgress}
 use Rattle.definition.specs.Log.{Entry, Log, Answer, appended, idempotentReplay, kept, counted, finished, refused, empty, base, count, snapshotBoundary, lastIndex, last, place, at, isHeld, predecessorTerm, sameTerm, sameContent, hardStateSuccessorRows, snapshotSuccessorRows, replayRows, installRows, rows, answerTo, placed, withEntry, withHardState, beyond, raisedBy, withPointer, accept, largestTerm, maximumObservedTerm, normalizedTo, normalizedHardState, withHard, normalizeHardStateTerm}
-use Rattle.definition.specs.Recovery.{Held, held, Out, State, Recovery, freshState, fresh, lookup, put, keep, ascending, judged, settled, admitted, visit, logClauses, keptLsns, heldClauses, stateClauses, soundState, padded, block, layout, soundStore, sound, scan, routed, guarded, observeState, normalized, normalizedState, finishState, stored, withStore, observe, finish, answers, observed, observeUntilRefused, ask, replicaOf, replicaAt}
+use Rattle.definition.specs.Recovery.{Held, held, Out, State, Recovery, freshState, fresh, lookup, put, keep, ascending, judged, settled, admitted, visit, logClauses, keptLsns, heldClauses, stateClauses, soundState, padTo, block, layout, soundStore, sound, scan, routed, guarded, observeState, normalized, normalizedState, finishState, stored, withStore, observe, finish, answers, observed, observeUntilRefused, ask, placeOf, replicaOf}
+use Rattle.definition.specs.Batch.{BatchEntry, Batch, Preview, batchRows, batchPointerRows, batchEntryRows, batchHardStateRows, concluded, hardened, extended, pointed, prepareOn, prepare, Shown, nothing, ofLog, ofBatch, storePlace, shownIn, previewedAt}
 use Rattle.definition.specs.Cases.Samples.{one, of, id, byte, logEntry, hardOf, pointerOf, snapshotAt, E, Ep, H, P, F, upTo, kE, kEp, logOf, plainLog, noLog, stateOf, only, sameOption, sameNumber, sameList, sameState, sameAnswer, replaced}
 
 -- Stores: zeros, with bytes written from a place on.
@@ -79,7 +80,7 @@ storing =
     ∷ []
 
 each-store : T (every stores storing)
-unfolding writes onStore stays stores command two storeOfTwo storing formRows empty base count snapshotBoundary lastIndex last place at isHeld predecessorTerm sameTerm sameContent hardStateSuccessorRows snapshotSuccessorRows replayRows installRows rows answerTo placed withEntry withHardState beyond raisedBy withPointer accept lookup put keep ascending judged settled admitted visit logClauses keptLsns heldClauses stateClauses soundState scan routed guarded observeState padded block layout soundStore stored withStore observe
+unfolding writes onStore stays stores command two storeOfTwo storing formRows empty base count snapshotBoundary lastIndex last place at isHeld predecessorTerm sameTerm sameContent hardStateSuccessorRows snapshotSuccessorRows replayRows installRows rows answerTo placed withEntry withHardState beyond raisedBy withPointer accept lookup put keep ascending judged settled admitted visit logClauses keptLsns heldClauses stateClauses soundState scan routed guarded observeState padTo block layout soundStore stored withStore observe
 each-store = tt
 
 -- Finishing, a chunk until its first refusal, and the readers, over a fresh recovery and over a store that is not sound.
@@ -121,5 +122,42 @@ whole-calls =
     ∷ []
 
 each-whole-call : T (every (λ b. b) whole-calls)
-unfolding writes short seven isRefusal reads whole-calls fresh freshState formRows empty base count snapshotBoundary lastIndex last place at isHeld predecessorTerm sameTerm sameContent hardStateSuccessorRows snapshotSuccessorRows replayRows installRows rows answerTo placed withEntry withHardState beyond raisedBy withPointer accept lookup put keep ascending judged settled admitted visit logClauses keptLsns heldClauses stateClauses soundState sound scan routed guarded observeState padded block layout soundStore stored withStore observe largestTerm maximumObservedTerm normalizedTo normalizedHardState withHard normalizeHardStateTerm normalized normalizedState finishState finish answers observeUntilRefused ask
+unfolding writes short seven isRefusal reads whole-calls fresh freshState formRows empty base count snapshotBoundary lastIndex last place at isHeld predecessorTerm sameTerm sameContent hardStateSuccessorRows snapshotSuccessorRows replayRows installRows rows answerTo placed withEntry withHardState beyond raisedBy withPointer accept lookup put keep ascending judged settled admitted visit logClauses keptLsns heldClauses stateClauses soundState sound scan routed guarded observeState padTo block layout soundStore stored withStore observe largestTerm maximumObservedTerm normalizedTo normalizedHardState withHard normalizeHardStateTerm normalized normalizedState finishState finish answers observeUntilRefused ask
 each-whole-call = tt
+
+-- A batch over a state with its store: 1 before all others, an identity not held while 8 are, the command shown.
+eight : State
+eight = stateOf (upTo (λ n. held (id 1 n) noLog) 8) 8 (some 8)
+
+over : State → ℕ → Recovery
+over s n = record { state = s; store = replicate n 0 }
+
+nothing-tried : Batch
+nothing-tried = record { snapshot = none; entries = []; hardState = none }
+
+one-tried : Batch
+one-tried = record { snapshot = none; entries = record { logEntry = logEntry 1 1 (byte 65); from = 70 } ∷ []; hardState = some (hardOf 1 none 1) }
+
+isShown : Shown → ℕ → ℕ → Bool
+isShown nothing from size = false
+isShown (ofLog a b) from size = false
+isShown (ofBatch a b) from size = a =? from && b =? size
+
+isNothing : Shown → Bool
+isNothing nothing = true
+isNothing (ofLog a b) = false
+isNothing (ofBatch a b) = false
+
+preparing : List Bool
+preparing =
+    reads (λ v. length (v .records) =? 2) (prepare (over eight 32768) (id 2 1) one-tried)
+    ∷ isRefusal 1 (prepare (over eight 32767) (id 0 0) nothing-tried)
+    ∷ isRefusal 1 (prepare (over (stateOf [] u64-max none) 32768) (id 0 0) nothing-tried)
+    ∷ isRefusal 50 (prepare (over (only (plainLog (kEp 1 1 (command []) ∷ []) none) 1 (some 1)) 32768) one nothing-tried)
+    ∷ isShown (previewedAt (over eight 32768) (id 1 2) one-tried 1) 70 1
+    ∷ isNothing (previewedAt (over eight 32767) (id 1 2) one-tried 1)
+    ∷ []
+
+each-prepare : T (every (λ b. b) preparing)
+unfolding eight over nothing-tried one-tried isShown isNothing preparing command isRefusal reads lookup placeOf replicaOf storePlace shownIn previewedAt prepare ask padTo block layout soundStore ascending logClauses keptLsns heldClauses stateClauses soundState batchRows batchPointerRows batchEntryRows batchHardStateRows concluded hardened extended pointed prepareOn empty base count snapshotBoundary lastIndex last place at isHeld predecessorTerm sameTerm sameContent hardStateSuccessorRows replayRows placed withEntry beyond raisedBy withPointer withHard largestTerm maximumObservedTerm
+each-prepare = tt

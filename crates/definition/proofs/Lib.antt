@@ -1,0 +1,15 @@
+pub mod Laws
+pub mod Natural
+pub mod Order
+pub mod Local
+pub mod Never
+pub mod Reach
+pub mod Places
+pub mod SoundLog
+pub mod Sound
+pub mod Store
+pub mod Rising
+pub mod Final
+pub mod Replayed
+pub mod Chunk
+pub mod Example
