@@ -6,6 +6,7 @@ pub mod Never
 pub mod Reach
 pub mod Places
 pub mod SoundLog
+pub mod Apart
 pub mod Sound
 pub mod Store
 pub mod Rising

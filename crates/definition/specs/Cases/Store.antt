@@ -15,9 +15,12 @@ use Rattle.definition.specs.Batch.{BatchEntry, Batch, Preview, batchRows
 use Rattle.definition.specs.Cases.Samples.{one, of, id, byte, logEntry, hardOf, pointerOf, snapshotAt, E, Ep, H, P, F, upTo, kE, kEp, logOf, plainLog, noLog, stateOf, only, sameOption, sameNumber, sameList, sameState, sameAnswer, replaced}
 
 -- Stores: zeros, with bytes written from a place on.
+write : ℕ → List ℕ → List ℕ → List ℕ
+write at bytes store = take at store ++ bytes ++ drop (at + length bytes) store
+
 writes : List (ℕ × List ℕ) → List ℕ
 writes [] = replicate 32768 0
-writes ((at, bytes) ∷ more) = take at (writes more) ++ bytes ++ drop (at + length bytes) (writes more)
+writes ((at, bytes) ∷ more) = write at bytes (writes more)
 
 record Stored : Type 0 where
   before : Recovery
@@ -65,22 +68,23 @@ storing =
     ∷ onStore two storeOfTwo (of (id 1 1) 5 (pointer (snapshotAt 2 1))) kept (writes ((0, 3 ∷ []) ∷ (4096, 4 ∷ []) ∷ []))
     -- a new replica between: the blocks after it move up, also where its record is refused
     ∷ onStore two storeOfTwo (of (id 1 2) 5 (entry 1 (logEntry 2 1 (command (7 ∷ []))))) (refused 28) (writes ((0, 1 ∷ 2 ∷ []) ∷ (128, 3 ∷ []) ∷ (8192, 4 ∷ []) ∷ []))
-    -- a form refusal, and a record of no Raft kind, leave it
-    ∷ onStore two storeOfTwo (of (id 1 2) 5 (entry 2 (logEntry 1 1 (command (7 ∷ []))))) (refused 5) storeOfTwo
-    ∷ onStore two storeOfTwo (F 5) counted storeOfTwo
-    -- not sound: the length, a byte of no held command (behind a command, of a configuration, of a free place, of a free block), a wrong byte
-    ∷ stays two (take 32767 storeOfTwo) (F 5)
-    ∷ stays two (storeOfTwo ++ 0 ∷ []) (F 5)
-    ∷ stays two [] (F 5)
-    ∷ stays two (writes ((0, 1 ∷ 2 ∷ 9 ∷ []) ∷ (128, 3 ∷ []) ∷ (4096, 4 ∷ []) ∷ [])) (F 5)
-    ∷ stays two (writes ((0, 1 ∷ 2 ∷ []) ∷ (64, 9 ∷ []) ∷ (128, 3 ∷ []) ∷ (4096, 4 ∷ []) ∷ [])) (F 5)
-    ∷ stays two (writes ((0, 1 ∷ 2 ∷ []) ∷ (128, 3 ∷ []) ∷ (4095, 9 ∷ 4 ∷ []) ∷ [])) (F 5)
+    -- not sound: the state and the store stay as they were
     ∷ stays two (writes ((0, 1 ∷ 2 ∷ []) ∷ (128, 3 ∷ []) ∷ (4096, 4 ∷ []) ∷ (32767, 9 ∷ []) ∷ [])) (F 5)
-    ∷ stays (stateOf [] u64-max none) (writes []) (F 5)
     ∷ []
 
-each-store : T (every stores storing)
-unfolding writes onStore stays stores command two storeOfTwo storing formRows empty base count snapshotBoundary lastIndex last place at isHeld predecessorTerm sameTerm sameContent hardStateSuccessorRows snapshotSuccessorRows replayRows installRows rows answerTo placed withEntry withHardState beyond raisedBy withPointer accept lookup put keep ascending judged settled admitted visit logClauses keptLsns heldClauses stateClauses soundState scan routed guarded observeState padTo block layout soundStore stored withStore observe
+-- Not sound: the length, a byte of no held command (behind a command, of a configuration, of a free place), a wrong byte.
+unsound : List (List ℕ)
+unsound =
+    take 32767 storeOfTwo
+    ∷ (storeOfTwo ++ 0 ∷ [])
+    ∷ writes ((0, 1 ∷ 2 ∷ 9 ∷ []) ∷ (128, 3 ∷ []) ∷ (4096, 4 ∷ []) ∷ [])
+    ∷ writes ((0, 1 ∷ 2 ∷ []) ∷ (64, 9 ∷ []) ∷ (128, 3 ∷ []) ∷ (4096, 4 ∷ []) ∷ [])
+    ∷ writes ((0, 1 ∷ 2 ∷ []) ∷ (128, 3 ∷ []) ∷ (4095, 9 ∷ 4 ∷ []) ∷ [])
+    ∷ writes ((0, 1 ∷ 2 ∷ []) ∷ (128, 3 ∷ []) ∷ (4096, 5 ∷ []) ∷ [])
+    ∷ []
+
+each-store : T (every stores storing && every (λ st. not (soundStore (record { state = two; store = st }))) unsound)
+unfolding write writes onStore stays stores command two storeOfTwo storing unsound formRows empty base count snapshotBoundary lastIndex last place at isHeld predecessorTerm sameTerm sameContent hardStateSuccessorRows snapshotSuccessorRows replayRows installRows rows answerTo placed withEntry withHardState beyond raisedBy withPointer accept lookup put keep ascending judged settled admitted visit logClauses keptLsns heldClauses stateClauses soundState scan routed guarded observeState padTo block layout soundStore stored withStore observe
 each-store = tt
 
 -- Finishing, a chunk until its first refusal, and the readers, over a fresh recovery and over a store that is not sound.
@@ -102,6 +106,7 @@ whole-calls : List Bool
 whole-calls =
     let c = observeUntilRefused fresh seven in
     let d = observeUntilRefused fresh (E 1 1 1 ∷ F 2 ∷ []) in
+    let f = finish (d .left) in
     (c .taken =? 2)
     ∷ sameOption sameNumber (c .ended) (some 30)
     ∷ sameState (c .left .state) (only (plainLog (kE 1 1 ∷ []) (some 1)) 3 (some 3))
@@ -109,20 +114,20 @@ whole-calls =
     ∷ (d .taken =? 2)
     ∷ sameOption sameNumber (d .ended) none
     ∷ sameState (d .left .state) (only (plainLog (kE 1 1 ∷ []) (some 1)) 2 (some 2))
-    ∷ sameState (finish (d .left) .next .state) (only (logOf (kE 1 1 ∷ []) 0 0 0 (some 1) (some (hardOf 1 none 0)) none none none) 2 (some 2))
-    ∷ sameBytes (finish (d .left) .next .store) (d .left .store)
-    ∷ sameAnswer (finish (d .left) .answer) finished
+    ∷ sameState (f .next .state) (only (logOf (kE 1 1 ∷ []) 0 0 0 (some 1) (some (hardOf 1 none 0)) none none none) 2 (some 2))
+    ∷ sameBytes (f .next .store) (d .left .store)
+    ∷ sameAnswer (f .answer) finished
     ∷ sameAnswer (finish short .answer) (refused 1)
     ∷ sameList sameAnswer (answers short (F 1 ∷ [])) (refused 1 ∷ [])
     ∷ sound fresh
     ∷ not (sound short)
+    ∷ not (sound (record { state = stateOf [] u64-max none; store = replicate 32768 0 }))
     ∷ reads (λ n. n =? 1) (ask (λ s. length (s .replicas)) (d .left))
     ∷ isRefusal 1 (ask (λ s. length (s .replicas)) short)
-    ∷ isRefusal 1 (ask (λ s. length (s .replicas)) (record { state = stateOf [] u64-max none; store = replicate 32768 0 }))
     ∷ []
 
 each-whole-call : T (every (λ b. b) whole-calls)
-unfolding writes short seven isRefusal reads whole-calls fresh freshState formRows empty base count snapshotBoundary lastIndex last place at isHeld predecessorTerm sameTerm sameContent hardStateSuccessorRows snapshotSuccessorRows replayRows installRows rows answerTo placed withEntry withHardState beyond raisedBy withPointer accept lookup put keep ascending judged settled admitted visit logClauses keptLsns heldClauses stateClauses soundState sound scan routed guarded observeState padTo block layout soundStore stored withStore observe largestTerm maximumObservedTerm normalizedTo normalizedHardState withHard normalizeHardStateTerm normalized normalizedState finishState finish answers observeUntilRefused ask
+unfolding write writes short seven isRefusal reads whole-calls fresh freshState formRows empty base count snapshotBoundary lastIndex last place at isHeld predecessorTerm sameTerm sameContent hardStateSuccessorRows snapshotSuccessorRows replayRows installRows rows answerTo placed withEntry withHardState beyond raisedBy withPointer accept lookup put keep ascending judged settled admitted visit logClauses keptLsns heldClauses stateClauses soundState sound scan routed guarded observeState padTo block layout soundStore stored withStore observe largestTerm maximumObservedTerm normalizedTo normalizedHardState withHard normalizeHardStateTerm normalized normalizedState finishState finish answers observeUntilRefused ask
 each-whole-call = tt
 
 -- A batch over a state with its store: 1 before all others, an identity not held while 8 are, the command shown.
@@ -150,12 +155,10 @@ isNothing (ofBatch a b) = false
 
 preparing : List Bool
 preparing =
-    reads (λ v. length (v .records) =? 2) (prepare (over eight 32768) (id 2 1) one-tried)
+    isShown (previewedAt (over eight 32768) (id 2 1) one-tried 1) 70 1
+    ∷ isNothing (previewedAt (over eight 32767) (id 2 1) one-tried 1)
     ∷ isRefusal 1 (prepare (over eight 32767) (id 0 0) nothing-tried)
     ∷ isRefusal 1 (prepare (over (stateOf [] u64-max none) 32768) (id 0 0) nothing-tried)
-    ∷ isRefusal 50 (prepare (over (only (plainLog (kEp 1 1 (command []) ∷ []) none) 1 (some 1)) 32768) one nothing-tried)
-    ∷ isShown (previewedAt (over eight 32768) (id 1 2) one-tried 1) 70 1
-    ∷ isNothing (previewedAt (over eight 32767) (id 1 2) one-tried 1)
     ∷ []
 
 each-prepare : T (every (λ b. b) preparing)
