@@ -74,7 +74,7 @@ def changes(line, lines, k):
     yield from each(r'\bmin\b', 'max', 'number')
     yield from each(r'\bnot \(', '(λ (b : Bool). b) (', 'test')
     yield from each(r'(?<![\w.′{⟨-])\d+(?![\w′])', lambda m: str(int(m.group(0)) + 1), 'number')
-    yield from each(r'(?<![\w.′{⟨-])[1-9]\d*(?![\w′])', lambda m: str(int(m.group(0)) - 1), 'number')
+    yield from each(r'(?<![\w.′{⟨-])[1-9]\d*(?![\w′])(?! when)', lambda m: str(int(m.group(0)) - 1), 'number')
     yield from each(r'\bu64-max\b', '18446744073709551614', 'number')
     yield from each(r'\bu64-max\b', '18446744073709551616', 'number')
     if re.search(r'= (true|false)$', line):
@@ -218,9 +218,12 @@ def main():
             open(path, 'w').write(before)
             rooms.put(where)
 
-    by, alive, broken, known = {}, [], [], 0
+    by, alive, broken, known, done = {}, [], [], 0, 0
     with ThreadPoolExecutor(jobs) as pool:
         for label, killers, others, code in pool.map(one, todo):
+            done += 1
+            if done % 50 == 0:
+                print('tried', done, 'of', len(todo), file=sys.stderr, flush=True)
             short = re.sub(r'^(\w+):\d+ ', r'\1 ', label)
             if others:
                 broken.append((label, others[0]))

@@ -1,11 +1,20 @@
 #!/usr/bin/env bash
 # A refused edit shows something only if it was refused at the place that it is about. Each crates/NAME/must-fail/*.edit says
-# that place, '# expect: FILE DECLARATION': the first error of its log must stand there. Run after rt ci.
+# that place, '# expect: FILE DECLARATION'. Its log must have an error of that declaration's own (not one that only passes on
+# another's), and, unless the place itself is a definition, no error of a definition: an edit that does not make sense shows
+# nothing. Run after rt ci.
 set -euo pipefail
 cd "$(dirname "${BASH_SOURCE[0]}")/.."
 
 edits=0 wrong=0
 say() { echo "must-fail-places: $*"; wrong=$((wrong + 1)); }
+
+# FILE DECLARATION of each error of a log that is the declaration's own.
+own_errors() { # LOG
+    grep ': error: ' "$1" | grep -v 'was not admitted' |
+        sed -n 's|^.*/must-fail/[^/]*/[^/]*/\([^:]*\):[0-9]*:[0-9]*: error: `\([^`]*\)`.*|\1 \2|p'
+}
+
 for edit in crates/*/must-fail/*.edit; do
     [ -f "$edit" ] || continue
     edits=$((edits + 1))
@@ -20,9 +29,12 @@ for edit in crates/*/must-fail/*.edit; do
         say "$edit has no log: it was not tried"
         continue
     fi
-    first=$(grep -m 1 ': error: ' "$log" || true)
-    found=$(sed -n "s|^.*/must-fail/$crate/$label/\([^:]*\):[0-9]*:[0-9]*: error: \`\([^\`]*\)\`.*|\1 \2|p" <<<"$first")
-    [ "$found" = "$expect" ] || say "$edit: expected '$expect', refused first at '${found:-$first}'"
+    errors=$(own_errors "$log" || true)
+    if ! grep -qxF -- "$expect" <<<"$errors"; then
+        say "$edit: nothing refused at '$expect'; refused first at '$(head -n 1 <<<"$errors")'"
+    fi
+    broken=$(grep -E '^(src|specs)/' <<<"$errors" | grep -vE '^specs/Cases/' | grep -vxF -- "$expect" || true)
+    [ -z "$broken" ] || say "$edit: a definition is refused too: '$(head -n 1 <<<"$broken")'"
 done
 [ "$edits" -gt 0 ] || say "no edit was found"
 [ "$wrong" -eq 0 ] || exit 1
