@@ -70,9 +70,9 @@ def changes(line, lines, k):
     yield from each(r'≠\?', '<?', 'test')
     yield from each(r'&&', '||', 'test')
     yield from each(r'\|\|', '&&', 'test')
-    yield from each(r'\bmax\b', 'min', 'number')
+    yield from each(r'(?<![-\w])max\b', 'min', 'number')
     yield from each(r'\bmin\b', 'max', 'number')
-    yield from each(r'\bnot \(', '(λ (b : Bool). b) (', 'test')
+    yield from each(r'\bnot \(', '(', 'test')
     yield from each(r'(?<![\w.′{⟨-])\d+(?![\w′])', lambda m: str(int(m.group(0)) + 1), 'number')
     yield from each(r'(?<![\w.′{⟨-])[1-9]\d*(?![\w′])(?! when)', lambda m: str(int(m.group(0)) - 1), 'number')
     yield from each(r'\bu64-max\b', '18446744073709551614', 'number')
@@ -102,10 +102,10 @@ def changes(line, lines, k):
                 if n + 1 < len(items):
                     yield head + ' = ' + ' ∷ '.join(items[:n] + [items[n + 1], items[n]] + items[n + 2:] + ['[]']), f'elements {n + 1} and {n + 2} swapped'
     # an element in a line of its own: left out, or swapped with the next (the next line keeps its own change)
-    m = re.match(r'(\s+∷ )(\w.*)$', line)
+    m = re.match(r'(\s+∷ )(?!\w*Rows )(\w.*)$', line)
     if m and k + 1 < len(lines):
         yield '\0drop', 'element out'
-        n = re.match(r'(\s+∷ )(\w.*)$', lines[k + 1])
+        n = re.match(r'(\s+∷ )(?!\w*Rows )(\w.*)$', lines[k + 1])
         if n:
             yield '\0swap', 'swapped with the next'
     m = re.match(r'(\s+)(\w[^∷=]*)$', line)

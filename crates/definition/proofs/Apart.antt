@@ -1,17 +1,19 @@
 -- Neighbouring rows that no input breaks together, so that their order cannot be seen.
 -- Assumes nothing.
-use Prim.Native.Nat.{ℕ, suc}
+use Prim.Native.Nat.{ℕ, suc, _+_, _≤_, pred, min}
 use mathlib.Core.Path.{_≡_, refl, sym, ap, _∙_}
 use mathlib.Core.Bool.{Bool, true, false, _&&_, not, and-false, true≢false}
 use mathlib.Core.List.{List, [], _∷_}
 use mathlib.Core.Option.{Option, none, some, Option·map}
+use native.Mathlib.Nat.{le-refl}
 use native.Mathlib.Omega.{arith}
 use lib.ListN.{length, getElem?}
-use borrow.Author.Tests.{ltb-true, eqb-true, eq-eqb, ne-eqb, le-ltb}
+use borrow.Author.Tests.{ltb-true, eqb-true, eqb-false, eq-eqb, ne-eqb, le-ltb}
 use Rattle.definition.specs.Table.{_=?_, _≠?_, _<?_, _≤?_, Row, _when_, first-of, ifSome, isSome, orZero, if_then_else_, u64-max}
 use Rattle.definition.specs.Records.{Identity, Payload, normal, configuration, inside, outside, LogEntry, HardState, Pointer, zeroConfigurationVersion, commandUnfit}
 use Rattle.definition.specs.Frontier.{RaftProgress, termWithoutBoundary, boundaryWithoutTerm}
 use Rattle.definition.specs.Log.{Entry, Log, PointerRecord, samePointerRecord, voteChanged, voteCleared, voteChangedInTerm, voteClearedInTerm, snapshotIndexRegression, conflictingSnapshotPointer, snapshotTermRegression, keptPointer, base, count, isEmpty, snapshotBoundary, lastIndex, last, place, at, isHeld, sameTerm, sameContent, conflictingPayload, committedPrefixOverwrite, missingLogPrefix, logIndexExhausted}
+use Rattle.definition.specs.Batch.{Batch, Preview, hardStateBeforeSnapshotCommit, commitBeyondLog}
 use Rattle.definition.proofs.Laws.{and-l, and-r}
 use Rattle.definition.proofs.SoundLog.{SoundLog}
 
@@ -130,3 +132,29 @@ module _ {T : Type 0} where
           && (log .snapshotIndex <? p .lastIncludedIndex && p .lastIncludedTerm <? log .snapshotTerm)) ≡ false
       go none e = refl
       go (some q) e = test (p .lastIncludedIndex =? q .lastIncludedIndex) (not (samePointerRecord (record { identity = i; snapshot = p }) (record { identity = i; snapshot = q }))) (log .snapshotIndex <? p .lastIncludedIndex) (p .lastIncludedTerm <? log .snapshotTerm) (same q e)
+
+  -- The last index is not below the boundary.
+  boundary-last : (log : Log T) → log .snapshotIndex ≤ u64-max → log .snapshotIndex ≤ last log
+  unfolding last lastIndex snapshotBoundary base
+  boundary-last log h = go (isEmpty log) (log .snapshotIndex =? 0) refl refl
+    where
+      go : (m z : Bool) → isEmpty log ≡ m → (log .snapshotIndex =? 0) ≡ z
+          → log .snapshotIndex ≤ orZero (λ n. n) (if m then Option·map (λ b. b .0) (if_then_else_ {A = Option (ℕ × ℕ)} z none (some (log .snapshotIndex, log .snapshotTerm))) else some (pred (base log + count log)))
+      go true true x y = omega (arith, eqb-true (log .snapshotIndex) 0 y)
+      go true false x y = le-refl (log .snapshotIndex)
+      go false z x y = let f : log .snapshotIndex ≤ pred (min (log .snapshotIndex + 1) u64-max + count log) = omega (arith, eqb-false (count log) 0 x) in f
+
+-- A batch's pointer is the preview's boundary from then on.
+pub apart-48-49 : (h : HardState) (b : Batch) (v : Preview) → ((p : PointerRecord) → b .snapshot ≡ some p → (v .log .snapshotIndex ≡ p .snapshot .lastIncludedIndex) × (v .log .snapshotIndex ≤ u64-max))
+    → Apart (hardStateBeforeSnapshotCommit h b) (commitBeyondLog h v)
+apart-48-49 h b v k = go (b .snapshot) k
+  where
+    under : (p : PointerRecord) → v .log .snapshotIndex ≡ p .snapshot .lastIncludedIndex → v .log .snapshotIndex ≤ u64-max → (a c : Bool) → (h .commit <? p .snapshot .lastIncludedIndex) ≡ a → (last (v .log) <? h .commit) ≡ c → (a && c) ≡ false
+    under p e m false c x y = refl
+    under p e m true false x y = refl
+    under p e m true true x y = absurd (omega (arith, ltb-true (h .commit) (p .snapshot .lastIncludedIndex) x, ltb-true (last (v .log)) (h .commit) y, boundary-last (v .log) m))
+
+    go : (o : Option PointerRecord) → ((p : PointerRecord) → o ≡ some p → (v .log .snapshotIndex ≡ p .snapshot .lastIncludedIndex) × (v .log .snapshotIndex ≤ u64-max))
+        → (ifSome (λ p. h .commit <? p .snapshot .lastIncludedIndex) o && last (v .log) <? h .commit) ≡ false
+    go none k = refl
+    go (some p) k = under p (k p refl .0) (k p refl .1) (h .commit <? p .snapshot .lastIncludedIndex) (last (v .log) <? h .commit) refl refl

@@ -286,6 +286,7 @@ showing =
     ∷ shows (batch none (lent 6 2 70 ∷ []) none) 6 (ofBatch 70 1)
     ∷ shows (batch none (lent 10 2 70 ∷ lent 10 2 80 ∷ lent 11 2 90 ∷ []) none) 10 (ofBatch 80 1)
     ∷ shows (batch none (lent 10 2 70 ∷ lent 10 2 80 ∷ []) none) 6 (ofLog 4096 1)
+    ∷ shows (batch none (lent 6 2 70 ∷ []) none) 9 (ofLog 4288 2)
     -- supplied and then cut; replaced by a configuration; the log's that the batch cuts
     ∷ shows (batch none (lent 10 2 70 ∷ lent 11 2 80 ∷ lent 10 3 90 ∷ []) (h 3 none 5)) 11 nothing
     ∷ shows (batch none (lent 10 2 70 ∷ ep 10 3 (configuration addLearner 1 1) ∷ []) (h 3 none 5)) 10 nothing
