@@ -82,12 +82,17 @@ broken =
     -- not the pointer's
     ∷ under 8 (bounded 6 2 (some (snapshotAt 5 2)) 0)
     ∷ under 8 (bounded 5 3 (some (snapshotAt 5 2)) 0)
+    ∷ under 8 (bounded 4 2 (some (snapshotAt 5 2)) 0)
+    ∷ under 8 (bounded 5 1 (some (snapshotAt 5 2)) 0)
     ∷ under 8 (bounded 5 2 none 0)
     ∷ under 8 (bounded 0 0 (some (snapshotAt 5 2)) 0)
     -- progress
     ∷ under 8 (progressed 6 2 5)
     ∷ under 8 (progressed 5 3 5)
     ∷ under 8 (progressed 5 2 6)
+    ∷ under 8 (progressed 4 2 5)
+    ∷ under 8 (progressed 5 1 5)
+    ∷ under 8 (progressed 5 2 4)
     ∷ under 8 (progressed 0 0 0)
     -- indices past 2^64 - 1
     ∷ under 8 (pointed u64-max 1 2)
