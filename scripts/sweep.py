@@ -99,7 +99,7 @@ def changes(line, lines, k):
             items = parts.split(' ∷ ')
             for n in range(len(items)):
                 yield head + ' = ' + ' ∷ '.join(items[:n] + items[n + 1:] + ['[]']), f'element {n + 1} out'
-                if n + 1 < len(items):
+                if n + 1 < len(items) and 'Clauses' not in head:      # a conjunction has no order
                     yield head + ' = ' + ' ∷ '.join(items[:n] + [items[n + 1], items[n]] + items[n + 2:] + ['[]']), f'elements {n + 1} and {n + 2} swapped'
     # an element in a line of its own: left out, or swapped with the next (the next line keeps its own change)
     m = re.match(r'(\s+∷ )(?!\w*Rows )(\w.*)$', line)

@@ -1,0 +1,2 @@
+pub mod Identity
+pub mod Refusal
