@@ -36,8 +36,49 @@ OTHER = {                   # what a field of an effect may wrongly become
     'lastScannedLsn': ['none', 's .lastScannedLsn'], 'replicas': ['[]', 's .replicas'], 'scannedRecords': ['s .scannedRecords'],
 }
 
+# neighbours that stand in expressions: file, declaration, old, new
+MORE = [
+    ('Frontier', 'progressSuccessorRows', 'truncationRegression p previous ∷ appliedRegression p previous', 'appliedRegression p previous ∷ truncationRegression p previous'),
+    ('Frontier', 'progressSuccessorRows', 'appliedRegression p previous ∷ boundaryTermChanged p previous', 'boundaryTermChanged p previous ∷ appliedRegression p previous'),
+    ('Frontier', 'progressSuccessorRows', 'progressRows p ++ truncationRegression p previous ∷ appliedRegression p previous ∷ boundaryTermChanged p previous ∷ []', 'truncationRegression p previous ∷ progressRows p ++ appliedRegression p previous ∷ boundaryTermChanged p previous ∷ []'),
+    ('Log', 'rows', 'entryAtOrBelowTruncation e log ∷ replayRows e log', 'replayRows e log ++ entryAtOrBelowTruncation e log ∷ []'),
+    ('Log', 'rows', 'hardStateSuccessorRows h (log .hardState) ++ hardStateCommitBeyondRecoveredLog h log ∷ viewCommitRegression h log ∷ []', 'hardStateCommitBeyondRecoveredLog h log ∷ hardStateSuccessorRows h (log .hardState) ++ viewCommitRegression h log ∷ []'),
+    ('Log', 'rows', 'hardStateCommitBeyondRecoveredLog h log ∷ viewCommitRegression h log ∷ []', 'viewCommitRegression h log ∷ hardStateCommitBeyondRecoveredLog h log ∷ []'),
+    ('Log', 'rows', 'snapshotSuccessorRows (record { identity = i; snapshot = p }) (keptPointer i log) ++ installRows p log', 'installRows p log ++ snapshotSuccessorRows (record { identity = i; snapshot = p }) (keptPointer i log)'),
+    ('Log', 'validateHardStateSuccessor', 'map zeroVotedForReplicaId (h ∷ present old) ++ zeroCurrentTerm h ∷ hardStateSuccessorRows h old', 'zeroCurrentTerm h ∷ map zeroVotedForReplicaId (h ∷ present old) ++ hardStateSuccessorRows h old'),
+    ('Log', 'validateHardStateSuccessor', 'zeroCurrentTerm h ∷ hardStateSuccessorRows h old', 'hardStateSuccessorRows h old ++ zeroCurrentTerm h ∷ []'),
+    ('Log', 'validateHardStateSuccessor', '(h ∷ present old)', '(h ∷ [])'),
+    ('Recovery', 'observeState', 'unsoundState s ∷ nonIncreasingWalLsn s (r .lsn) ∷ []', 'nonIncreasingWalLsn s (r .lsn) ∷ unsoundState s ∷ []'),
+    ('Recovery', 'visit', 'formRows i k ++ tooManyReplicas full was ∷ []', 'tooManyReplicas full was ∷ formRows i k'),
+    ('Recovery', 'admitted', 'admitted (some n) i k t was = out (refused n) none', 'admitted (some n) i k t was = out (refused n) (some (Option·getD was empty))'),
+    ('Recovery', 'judged', 'judged (some n) k t log = out (refused n) (some log)', 'judged (some n) k t log = out (refused n) none'),
+    ('Recovery', 'judged', 'judged (some n) k t log = out (refused n) (some log)', 'judged (some n) k t log = out (refused n) (some (accept k t log))'),
+    ('Recovery', 'guarded', 'guarded (some n) s lsn c = out (refused n) s', 'guarded (some n) s lsn c = out (refused n) (scan s lsn (s .replicas))'),
+    ('Recovery', 'keptLsns', 'present (log .snapshotPointerLsn) ++ ', ''),
+    ('Recovery', 'keptLsns', 'present (log .hardStateLsn) ++ ', ''),
+    ('Recovery', 'keptLsns', ' ++ present (log .lastReplayedLsn)', ''),
+    ('Recovery', 'keptLsns', 'map (λ e. e .lsn) (log .entries) ++ ', ''),
+    ('Recovery', 'minimumRecoveryLsn', '(least (log .hardStateLsn) (firstRetainedLsn log))', '(firstRetainedLsn log)'),
+    ('Recovery', 'minimumRecoveryLsn', '(least (log .hardStateLsn) (firstRetainedLsn log))', '(log .hardStateLsn)'),
+    ('Recovery', 'finishState', 'out finished (normalizedState s)', 'out finished s'),
+    ('Recovery', 'stored', 'store = layout (o .next .replicas)', 'store = []'),
+    ('Batch', 'pointed', 'pointed (some p) v = previewed (batchPointerRows p v) (previewPointer p v)', 'pointed (some p) v = previewed (batchPointerRows p v) v'),
+    ('Batch', 'extended', '(previewEntry i (e .logEntry) v) (extended es)', 'v (extended es)'),
+    ('Batch', 'hardened', '(previewHardState i h v) concluded', 'v concluded'),
+    ('Batch', 'concluded', 'previewed (hardStateBeforeLogTerm b was v ∷ []) v ok', 'ok v'),
+    ('Batch', 'shownAs', 'some f ↦ ofBatch f (length bytes)', 'some f ↦ ofLog at (length bytes)'),
+    ('Batch', 'supplied', 'if isSome later then later else', 'if not (isSome later) then later else'),
+]
+
 
 def mutants():
+    for name, owner, old, new in MORE:
+        text = open(f'{crate}/specs/{name}.antt').read()
+        if text.count(old) != 1:
+            sys.exit(f'sweep: not once in {name}: {old}')
+        k = text[:text.index(old)].count('\n')
+        line = text.split('\n')[k]
+        yield name, k, line.replace(old, new), f'{name}:{k + 1} {owner} {old[:40]} to {new[:40]}'
     for name in FILES:
         lines = open(f'{crate}/specs/{name}.antt').read().split('\n')
         owner = ''
@@ -104,14 +145,14 @@ def changes(line, lines, k):
     # an element in a line of its own: left out, or swapped with the next (the next line keeps its own change)
     m = re.match(r'(\s+∷ )(?!\w*Rows )(\w.*)$', line)
     if m and k + 1 < len(lines):
-        yield '\0drop', 'element out'
+        yield '\0drop', f'{m.group(2).split()[0]} out'
         n = re.match(r'(\s+∷ )(?!\w*Rows )(\w.*)$', lines[k + 1])
         if n:
-            yield '\0swap', 'swapped with the next'
+            yield '\0swap', f'{m.group(2).split()[0]} swapped with the next'
     m = re.match(r'(\s+)(\w[^∷=]*)$', line)
     if m and k + 1 < len(lines) and re.match(r'\s+∷ \w', lines[k + 1]) and lines[k - 1].rstrip().endswith('='):
-        yield '\0first', 'swapped with the next'
-        yield '\0dropfirst', 'element out'
+        yield '\0first', f'{m.group(2).split()[0]} swapped with the next'
+        yield '\0dropfirst', f'{m.group(2).split()[0]} out'
     if re.search(r'\bif (.+?) then', line):
         yield from each(r'\bif (?=.+? then)(.+?) then', lambda m: f'if not ({m.group(1)}) then', 'choice')
 

@@ -80,6 +80,7 @@ hards =
     ∷ refuses 34 (hard (some (hardOf 2 (some 3) 5)) (hardOf 2 (some 4) 4))
     ∷ refuses 34 (hard (some (hardOf 2 none 5)) (hardOf 3 none 4))
     ∷ refuses 35 (hard (some (hardOf 2 (some 3) 5)) (hardOf 2 (some 4) 5))
+    ∷ refuses 35 (hard (some (hardOf 2 (some 3) 5)) (hardOf 2 (some 2) 5))
     ∷ refuses 36 (hard (some (hardOf 2 (some 3) 5)) (hardOf 2 none 6))
     ∷ accepts (hard none (hardOf 1 none 9))
     ∷ accepts (hard (some (hardOf 2 (some 3) 5)) (hardOf 2 (some 3) 5))
