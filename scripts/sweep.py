@@ -15,7 +15,9 @@ from queue import Queue
 top = os.path.dirname(os.path.dirname(os.path.abspath(__file__)))
 crate = os.path.join(top, 'crates/definition')
 FILES = ['Table', 'Records', 'Frontier', 'Log', 'Recovery', 'Batch']
-SLOW = ['Store']            # tests over the 32,768 bytes of a store: only for those that the others leave alive
+STAGES = [                  # files of tests, the quick ones first; a stage is run only on what the ones before leave alive
+    ['Refusals', 'Checks', 'Batches'], ['Effects', 'Soundness', 'Readers'], ['Starred', 'TwoLists'], ['Store'],
+]
 MACHINERY = {               # not rules: tables, options and lists, or what only the proofs and the store's laws speak of
     'Table': ['sameBytes', 'present', 'every', 'all-of', 'ifSome', 'isSome', 'orZero', 'unless', 'first-of', '_=?_', '_≠?_', '_<?_', '_≤?_', 'if_then_else_'],
 }
@@ -190,13 +192,17 @@ def room():
                 return m.group(1) + ', '.join(have + [x for x in names if x not in have]) + '}'
             text = re.sub(r'(use ' + re.escape(module) + r'\.\{)([^}]*)\}', wider, text)
         open(path, 'w').write(text)
-    cases = f'{where}/crates/definition/specs/Cases.antt'
-    text = open(cases).read()
-    for slow in SLOW:
-        text = text.replace(f'pub mod {slow}\n', '')
-        os.rename(f'{where}/crates/definition/specs/Cases/{slow}.antt', f'{where}/{slow}.kept')
-    open(cases, 'w').write(text)
+    os.rename(f'{where}/crates/definition/specs/Cases', f'{where}/kept')
     return where
+
+
+def stage(where, names):
+    folder = f'{where}/crates/definition/specs/Cases'
+    shutil.rmtree(folder, ignore_errors=True)
+    os.mkdir(folder)
+    for name in ['Samples'] + names:
+        shutil.copy(f'{where}/kept/{name}.antt', folder)
+    open(folder + '.antt', 'w').write(''.join(f'pub mod {n}\n' for n in ['Samples'] + names))
 
 
 def check(where):
@@ -213,9 +219,13 @@ def tests():
 
 
 def judge(where, named):
-    errors, code = check(where)
-    killers = [n for n, rest in errors if n in named]
-    others = [n + rest[:90] for n, rest in errors if n not in named and 'was not admitted' not in rest and 'cannot be unfolded' not in rest]
+    for names in STAGES:
+        stage(where, names)
+        errors, code = check(where)
+        killers = [n for n, rest in errors if n in named]
+        others = [n + rest[:90] for n, rest in errors if n not in named and 'was not admitted' not in rest and 'cannot be unfolded' not in rest]
+        if killers or others or code:
+            break
     return killers, others, code
 
 
@@ -244,16 +254,6 @@ def main():
         try:
             open(path, 'w').write(apply(before.split('\n'), k, new))
             killers, others, code = judge(where, named)
-            if not killers and not others and code == 0:
-                cases = f'{where}/crates/definition/specs/Cases.antt'
-                text = open(cases).read()
-                for slow in SLOW:
-                    shutil.copy(f'{where}/{slow}.kept', f'{where}/crates/definition/specs/Cases/{slow}.antt')
-                open(cases, 'w').write(text + ''.join(f'pub mod {s}\n' for s in SLOW))
-                killers, others, code = judge(where, named)
-                open(cases, 'w').write(text)
-                for slow in SLOW:
-                    os.remove(f'{where}/crates/definition/specs/Cases/{slow}.antt')
             return label, killers, others, code
         finally:
             open(path, 'w').write(before)

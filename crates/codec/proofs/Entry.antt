@@ -7,7 +7,7 @@ use mathlib.Core.List.{List, [], _∷_}
 use Rattle.definition.specs.Table.{first-of}
 use Rattle.definition.specs.Records.{zeroConfigurationReplica, zeroVersion, commandUnfit, formRows}
 use Rattle.ids.specs.Identity.{identityOf}
-use Rattle.ids.proofs.Rows.{orElse, first-more}
+use Rattle.definition.proofs.Laws.{orElse, first-join}
 use Rattle.codec.specs.declared.RaftLogEntryRecord.{RaftLogEntryRecord}
 use Rattle.codec.specs.Records.{payloadOf, logEntryOf, entryKindOf, fieldRows}
 
@@ -16,4 +16,4 @@ pub entry-rows : (r : RaftLogEntryRecord) (lent : List ℕ) →
     zeroVersion (payloadOf (r .payload) lent) ≡ false →
     first-of (formRows (identityOf (r .identity)) (entryKindOf r lent)) ≡ orElse (first-of (fieldRows r)) (first-of (commandUnfit (logEntryOf r lent) ∷ []))
 unfolding formRows
-entry-rows r lent a b = rw (a, b) (first-more (fieldRows r) (commandUnfit (logEntryOf r lent) ∷ []))
+entry-rows r lent a b = rw (a, b) (first-join (fieldRows r) (commandUnfit (logEntryOf r lent) ∷ []))

@@ -5,7 +5,7 @@ use borrow.Author.Needs.{needs}
 use borrow.Author.Tests.{eq-eqb, ne-eqb, lt-ltb, le-ltb}
 use Rattle.definition.specs.Frontier.{progressSuccessorRows, validateProgress, validateProgressSuccessor}
 use Rattle.ids.specs.Refusal.{checkedOf}
-use Rattle.ids.proofs.Rows.{first-more}
+use Rattle.definition.proofs.Laws.{first-join}
 use Rattle.frontier.proofs.RaftProgress.validate_successor.Statement.{statement}
 use Rattle.frontier.proofs.RaftProgress.validate_successor.Tie as tie
 
@@ -17,7 +17,7 @@ enum-known-why c = search needs
 
 returns : tie.Need-returns
 unfolding progressSuccessorRows validateProgress validateProgressSuccessor
-returns c = simp (first-more, sym (c .before .before .before .validate .ensures) ∙ ap checkedOf (c .before .why .given .1))
+returns c = simp (first-join, sym (c .before .before .before .validate .ensures) ∙ ap checkedOf (c .before .why .given .1))
 
 enum-told : tie.Need-enum-told
 enum-told c = search needs
@@ -26,7 +26,7 @@ returns-2 : tie.Need-returns-2
 unfolding progressSuccessorRows validateProgress validateProgressSuccessor
 returns-2 c =
     search (
-      first-more,
+      first-join,
       sym (c .before .before .before .before .before .validate .ensures) ∙ ap checkedOf (c .before .before .before .enum-told .given .1),
       lt-ltb,
     )
@@ -35,7 +35,7 @@ returns-3 : tie.Need-returns-3
 unfolding progressSuccessorRows validateProgress validateProgressSuccessor
 returns-3 c =
     search (
-      first-more,
+      first-join,
       sym (c .before .before .before .before .before .before .before .before .validate .ensures) ∙ ap checkedOf (c .before .before .before .before .before .before .enum-told .given .1),
       lt-ltb,
       le-ltb,
@@ -45,7 +45,7 @@ returns-4 : tie.Need-returns-4
 unfolding progressSuccessorRows validateProgress validateProgressSuccessor
 returns-4 c =
     search (
-      first-more,
+      first-join,
       sym (c .before .before .before .before .before .before .before .before .before .before .before .validate .ensures) ∙ ap checkedOf (c .before .before .before .before .before .before .before .before .before .enum-told .given .1),
       ne-eqb,
       le-ltb,
@@ -55,7 +55,7 @@ returns-5 : tie.Need-returns-5
 unfolding progressSuccessorRows validateProgress validateProgressSuccessor
 returns-5 c =
     search (
-      first-more,
+      first-join,
       sym (c .before .before .before .before .before .before .before .before .before .before .before .before .before .before .validate .ensures) ∙ ap checkedOf (c .before .before .before .before .before .before .before .before .before .before .before .before .enum-told .given .1),
       eq-eqb,
       ne-eqb,
@@ -66,7 +66,7 @@ returns-6 : tie.Need-returns-6
 unfolding progressSuccessorRows validateProgress validateProgressSuccessor
 returns-6 c =
     search (
-      first-more,
+      first-join,
       sym (c .before .before .before .before .before .before .before .before .before .before .before .before .before .before .validate .ensures) ∙ ap checkedOf (c .before .before .before .before .before .before .before .before .before .before .before .before .enum-told .given .1),
       eq-eqb,
       le-ltb,
