@@ -43,6 +43,9 @@ readers : List Bool
 readers =
     reads noLog 0 none none none none
     ∷ reads (bounded [] 5 2) 0 none (some 5) (some (5, 2)) none
+    -- the index decides whether there is a boundary
+    ∷ reads (bounded [] 5 0) 0 none (some 5) (some (5, 0)) none
+    ∷ reads (bounded [] 0 2) 0 none none none none
     ∷ reads (plainLog (kE 1 9 ∷ kE 1 4 ∷ []) none) 2 (some 1) (some 2) none (some 9)
     ∷ reads (bounded (kE 1 9 ∷ kE 1 4 ∷ []) 5 2) 2 (some 6) (some 7) (some (5, 2)) (some 9)
     ∷ reads (bounded [] u64-max 1) 0 none (some u64-max) (some (u64-max, 1)) none
