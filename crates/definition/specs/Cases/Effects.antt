@@ -52,7 +52,12 @@ entries =
     (logOf (kE 2 1 ∷ kE 2 9 ∷ []) 5 2 6 (some 9) (some (hardOf 4 (some 3) 6)) (some 4) (some (snapshotAt 5 2)) (some 2))
     ∷ from (logOf (kE 2 1 ∷ []) 5 2 6 (some 3) (some (hardOf 4 (some 3) 6)) (some 4) (some (snapshotAt 5 2)) (some 2)) (E 9 6 2) idempotentReplay
     (logOf (kE 2 9 ∷ []) 5 2 6 (some 9) (some (hardOf 4 (some 3) 6)) (some 4) (some (snapshotAt 5 2)) (some 2))
-    -- the 64th entry; the last index
+    -- the first after a boundary above the view's commit, which only a hand-made state has
+    ∷ from (logOf [] 5 2 0 none none none (some (snapshotAt 5 2)) none) (E 9 6 2) appended (logOf (kE 2 9 ∷ []) 5 2 0 (some 9) none none (some (snapshotAt 5 2)) none)
+    -- the last index, again
+    ∷ leaving (P 1 18446744073709551614 1 ∷ E 2 u64-max 1 ∷ E 3 u64-max 1 ∷ []) (kept ∷ appended ∷ idempotentReplay ∷ [])
+    (logOf (kE 1 3 ∷ []) 18446744073709551614 1 18446744073709551614 (some 3) (some (hardOf 1 none 18446744073709551614)) none (some (snapshotAt 18446744073709551614 1)) (some 1)) 3 3
+    -- the 64th entry
     ∷ fromState (only (plainLog (upTo (λ n. kE 1 n) 63) (some 63)) 63 (some 63)) (E 64 64 1 ∷ []) (appended ∷ [])
     (sameState (only (plainLog (upTo (λ n. kE 1 n) 64) (some 64)) 64 (some 64)))
     -- a replacement with 64 retained

@@ -138,6 +138,7 @@ entries =
     ∷ after (E 1 1 2 ∷ E 2 2 3 ∷ H 3 3 none 2 ∷ []) (E 4 2 1) 27
     ∷ fresh (E 1 2 1) 28
     ∷ fresh (E 1 u64-max 1) 28
+    ∷ on (only (logOf [] 0 0 5 none none none none none) 1 (some 1)) (E 2 2 1) 28
     -- 29: no machine's number comes past 2^64 - 1
     ∷ after (P 1 u64-max 2 ∷ []) (E 2 (u64-max + 1) 2) 29
     ∷ after (P 1 u64-max 2 ∷ []) (E 2 (u64-max + 2) 1) 29
@@ -211,6 +212,7 @@ pointers =
     ∷ on (only (logOf [] 5 2 5 none none none (some (pointerOf 1 7 5 2 6 1 1 1)) none) 1 (some 1)) (P 2 5 2) 40
     ∷ on atEnd (P 4 u64-max 2) 40
     ∷ after (P 1 5 2 ∷ []) (P 2 6 1) 41
+    ∷ after (P 1 5 9 ∷ []) (P 2 6 8) 41
     ∷ after (P 1 5 3 ∷ E 2 6 3 ∷ []) (P 3 6 2) 41
     ∷ after (E 1 1 1 ∷ []) (P 2 1 2) 42
     ∷ after (P 1 5 2 ∷ E 2 6 3 ∷ []) (P 3 6 2) 42
