@@ -19,7 +19,7 @@ STAGES = [                  # files of tests, the quick ones first; a stage is r
     ['Refusals', 'Checks', 'Batches'], ['Effects', 'Soundness', 'Readers'], ['Starred', 'TwoLists'], ['Store'],
 ]
 MACHINERY = {               # not rules: tables, options and lists, or what only the proofs and the store's laws speak of
-    'Table': ['sameBytes', 'present', 'every', 'all-of', 'ifSome', 'isSome', 'orZero', 'unless', 'first-of', '_=?_', '_≠?_', '_<?_', '_≤?_', 'if_then_else_'],
+    'Table': ['u64-max', 'sameBytes', 'present', 'every', 'all-of', 'ifSome', 'isSome', 'orZero', 'unless', 'first-of', '_=?_', '_≠?_', '_<?_', '_≤?_', 'if_then_else_'],
 }
 IMPORTS = {                 # names that a mutant may need
     'mathlib.Core.Bool': ['Bool', 'true', 'false', '_&&_', '_||_', 'not'],
@@ -94,6 +94,8 @@ def mutants():
             if owner in MACHINERY.get(name, []):
                 continue
             for new, what in changes(line, lines, k):
+                if owner in ('empty', 'freshState') and re.search(r' to (log|s) \.| to some t$', what):
+                    continue        # nothing of the kind is in scope there
                 if new != line:
                     yield name, k, new, f'{name}:{k + 1} {owner} {what}'
 

@@ -101,7 +101,10 @@ pointers =
     (logOf (kE 3 2 ∷ []) 1 3 2 (some 4) (some (hardOf 3 none 1)) (some 3) (some (snapshotAt 1 3)) (some 4)) 4 4
     -- all fields of the pointer are kept
     ∷ from noLog (of one 9 (pointer (pointerOf 1 8 5 2 5 3 4 6))) kept (logOf [] 5 2 5 (some 9) (some (hardOf 2 none 5)) none (some (pointerOf 1 8 5 2 5 3 4 6)) (some 9))
-    -- at the end of the index space: the entry stays each time
+    -- near the end of the index space: one entry goes
+    ∷ leaving (P 1 18446744073709551613 1 ∷ E 2 18446744073709551614 1 ∷ E 3 u64-max 1 ∷ P 4 18446744073709551614 1 ∷ []) (kept ∷ appended ∷ appended ∷ kept ∷ [])
+    (logOf (kE 1 3 ∷ []) 18446744073709551614 1 18446744073709551614 (some 4) (some (hardOf 1 none 18446744073709551614)) none (some (snapshotAt 18446744073709551614 1)) (some 4)) 4 4
+    -- at its end: the entry stays each time
     ∷ leaving (P 1 18446744073709551614 1 ∷ E 2 u64-max 1 ∷ P 3 u64-max 1 ∷ P 4 u64-max 1 ∷ H 5 1 none u64-max ∷ []) (kept ∷ appended ∷ kept ∷ kept ∷ kept ∷ [])
     (logOf (kE 1 2 ∷ []) u64-max 1 u64-max (some 4) (some (hardOf 1 none u64-max)) (some 5) (some (snapshotAt u64-max 1)) (some 4)) 5 5
     ∷ []

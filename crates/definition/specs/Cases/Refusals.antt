@@ -213,6 +213,8 @@ pointers =
     ∷ on atEnd (P 4 u64-max 2) 40
     ∷ after (P 1 5 2 ∷ []) (P 2 6 1) 41
     ∷ after (P 1 5 9 ∷ []) (P 2 6 8) 41
+    -- above the boundary, though not above the view's commit
+    ∷ after (E 1 1 2 ∷ E 2 2 2 ∷ E 3 3 2 ∷ H 4 2 none 3 ∷ P 5 1 2 ∷ []) (P 6 2 1) 41
     ∷ after (P 1 5 3 ∷ E 2 6 3 ∷ []) (P 3 6 2) 41
     ∷ after (E 1 1 1 ∷ []) (P 2 1 2) 42
     ∷ after (P 1 5 2 ∷ E 2 6 3 ∷ []) (P 3 6 2) 42
