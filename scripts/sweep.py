@@ -19,7 +19,7 @@ STAGES = [                  # files of tests, the quick ones first; a stage is r
     ['Refusals', 'Checks', 'Batches'], ['Effects', 'Soundness', 'Readers'], ['Starred', 'TwoLists'], ['Store'],
 ]
 MACHINERY = {               # not rules: tables, options and lists, or what only the proofs and the store's laws speak of
-    'Table': ['u64-max', 'sameBytes', 'present', 'every', 'all-of', 'ifSome', 'isSome', 'orZero', 'unless', 'first-of', '_=?_', '_≠?_', '_<?_', '_≤?_', 'if_then_else_'],
+    'Table': ['sameBytes', 'present', 'every', 'all-of', 'ifSome', 'isSome', 'orZero', 'unless', 'first-of', '_=?_', '_≠?_', '_<?_', '_≤?_', 'if_then_else_'],
 }
 IMPORTS = {                 # names that a mutant may need
     'mathlib.Core.Bool': ['Bool', 'true', 'false', '_&&_', '_||_', 'not'],
@@ -120,8 +120,8 @@ def changes(line, lines, k):
     yield from each(r'\bnot \(', '(', 'test')
     yield from each(r'(?<![\w.′{⟨-])\d+(?![\w′])', lambda m: str(int(m.group(0)) + 1), 'number')
     yield from each(r'(?<![\w.′{⟨-])[1-9]\d*(?![\w′])(?! when)', lambda m: str(int(m.group(0)) - 1), 'number')
-    yield from each(r'\bu64-max\b', '18446744073709551614', 'number')
-    yield from each(r'\bu64-max\b', '18446744073709551616', 'number')
+    yield from each(r'(?<=.)\bu64-max\b', '18446744073709551614', 'number')
+    yield from each(r'(?<=.)\bu64-max\b', '18446744073709551616', 'number')
     if re.search(r'= (true|false)$', line):
         yield from each(r'\btrue$', 'false', 'value')
         yield from each(r'\bfalse$', 'true', 'value')
