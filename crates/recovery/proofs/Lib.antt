@@ -1,0 +1,14 @@
+pub mod At
+pub mod Finish
+pub mod Fresh
+pub mod Link
+pub mod Observe
+pub mod Open
+pub mod Place
+pub mod Rank
+pub mod Routed
+pub mod Sound
+pub mod Store
+pub mod Test
+pub mod Turn
+pub mod Walk

@@ -1,0 +1,22 @@
+use borrow.Author.Needs.{needs}
+use Rattle.recovery.proofs.RecoveredRaftStorage.fresh.Statement.{statement}
+use Rattle.recovery.proofs.RecoveredRaftStorage.fresh.Tie as tie
+use Rattle.recovery.proofs.RecoveredRaftStorage.fresh.Reads as reads
+use Rattle.recovery.proofs.RecoveredRaftStorage.fresh.Lts as lts
+use Rattle.recovery.proofs.no_entry.Reads as no-entry-reads
+use Rattle.recovery.proofs.no_header.Reads as no-header-reads
+
+-- src/lib.rt:76:13
+no-header-requires : tie.Need-no-header-requires
+no-header-requires c κs = search needs
+
+-- src/lib.rt:77:13
+no-entry-requires : tie.Need-no-entry-requires
+no-entry-requires c κs = search needs
+
+-- src/lib.rt:73:5
+returns : tie.Need-returns
+returns c = simp (c .before .no-header .ensures, c .no-entry .ensures)
+
+pub fresh-spec : {M : Type 1} → statement M
+fresh-spec = tie.close (tie.spec no-header-requires no-entry-requires returns)

@@ -1,0 +1,4 @@
+pub mod Meaning
+pub mod Model
+pub mod Place
+pub mod Sound

@@ -1,0 +1,10 @@
+pub mod Accepted
+pub mod Block
+pub mod Dropped
+pub mod Head
+pub mod Kept
+pub mod Readers
+pub mod Rows
+pub mod Same
+pub mod Tab
+pub mod Told
