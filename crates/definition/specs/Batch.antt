@@ -2,12 +2,12 @@
 -- command shown for a previewed index.
 -- Assumes nothing.
 use Prim.Native.Nat.{ℕ, _+_, _*_, max}
-use mathlib.Core.Bool.{Bool, true, false, _&&_, not}
-use mathlib.Core.List.{List, [], _∷_, _++_, map}
-use mathlib.Core.Option.{Option, none, some, Option·map, Option·getD}
+use mathlib.Core.Bool.{_&&_, not}
+use mathlib.Core.List.{List, [], _∷_, _++_}
+use mathlib.Core.Option.{Option, none, some}
 use lib.ListN.{length}
 use Rattle.definition.specs.Table.{_=?_, _<?_, _≤?_, Row, _when_, first-of, Result, ok, refusal, ifSome, isSome, orZero, if_then_else_, u64-max}
-use Rattle.definition.specs.Records.{Identity, same, Command, inside, outside, Payload, normal, configuration, LogEntry, HardState, Pointer, Kind, entry, hardState, pointer, zeroConfigurationReplicaId, zeroConfigurationVersion, zeroRaftGroupId, zeroReplicaId, zeroLogIndex, zeroTerm, commandUnfit, zeroVotedForReplicaId, zeroCurrentTerm, zeroSnapshotGroupId, zeroSnapshotReplicaId, unsupportedSnapshotVersion, zeroSnapshotId, invalidSnapshotBoundary, snapshotAppliedIndexMismatch, invalidSnapshotFileMetadata}
+use Rattle.definition.specs.Records.{Identity, same, inside, outside, Payload, normal, configuration, LogEntry, HardState, Kind, entry, hardState, pointer, zeroConfigurationReplicaId, zeroConfigurationVersion, zeroRaftGroupId, zeroReplicaId, zeroLogIndex, zeroTerm, commandUnfit, zeroVotedForReplicaId, zeroCurrentTerm, zeroSnapshotGroupId, zeroSnapshotReplicaId, unsupportedSnapshotVersion, zeroSnapshotId, invalidSnapshotBoundary, snapshotAppliedIndexMismatch, invalidSnapshotFileMetadata}
 use Rattle.definition.specs.Log.{Log, PointerRecord, last, place, at, keptPointer, hardStateSuccessorRows, snapshotIndexRegression, conflictingSnapshotPointer, snapshotTermRegression, snapshotBoundaryTermMismatch, entryAtOrBelowSnapshot, replayRows, withEntry, withPointer, withHard, maximumObservedTerm}
 use Rattle.definition.specs.Recovery.{State, Recovery, replicaOf, placeOf, ask}
 

@@ -6,7 +6,7 @@ use Rattle.ids.proofs.Numbers.{numberOf-injective}
 use Rattle.frontier.specs.declared.RaftProgress.{RaftProgress}
 use Rattle.frontier.specs.declared.NewProgress.{NewProgress}
 use Rattle.frontier.specs.declared.NewProgress.the-variants as N
-use Rattle.frontier.specs.Progress.{progressOf, newOf}
+use Rattle.frontier.specs.Progress.{newOf}
 
 abbrev back : D.RaftProgress → RaftProgress
 back p =

@@ -3,7 +3,6 @@
 use Prim.Native.Nat.{ℕ, pred}
 use mathlib.Core.Path.{_≡_, refl, ap, sym, _∙_}
 use mathlib.Core.List.{List, [], _∷_}
-use mathlib.Core.Option.{Option, none, some}
 use lib.ListN.{getD}
 use Rattle.ids.specs.declared.Refusal.{Refusal}
 use Rattle.ids.specs.declared.Refusal.the-variants as R

@@ -1,15 +1,14 @@
 -- The order of identities, and what is held for one in a list by its places.
 -- Assumes nothing.
 use mathlib.Core.Path.{_≡_, refl, ap, subst}
-use mathlib.Core.Logic.{_⊎_, inl, inr}
-use mathlib.Core.Bool.{Bool, true, false, _&&_, _||_, or-true, false≢true}
+use mathlib.Core.Logic.{inl, inr}
+use mathlib.Core.Bool.{Bool, true, false}
 use mathlib.Core.List.{List, _∷_, _++_}
 use mathlib.Core.Option.{none, some, Option·map}
 use Prim.Native.Nat.{ℕ, zero, suc, _<_, _≤_}
 use native.Mathlib.Omega.{arith}
-use borrow.Author.Tests.{ltb-true, ltb-false, eqb-true, lt-ltb, eq-eqb}
 use lib.ListN.{set, take, drop}
-use Rattle.definition.specs.Table.{_=?_, _<?_, every}
+use Rattle.definition.specs.Table.{every}
 use Rattle.definition.specs.Records.{Identity, same, before}
 use Rattle.definition.specs.Recovery.{Held, held, lookup, placeOf, put, ascending}
 use Rattle.definition.proofs.Laws.{and-l, and-r, and-i, contra}

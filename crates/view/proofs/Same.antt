@@ -2,11 +2,9 @@
 -- Assumes nothing.
 use mathlib.Core.Path.{_≡_, refl, ap}
 use mathlib.Core.Bool.{Bool, true, _&&_, false≢true}
-use mathlib.Core.List.{List, [], _∷_}
-use Prim.Native.Nat.{ℕ}
 use native.Mathlib.Omega.{arith}
 use borrow.Author.Tests.{eqb-true}
-use Rattle.definition.specs.Table.{_=?_, sameBytes}
+use Rattle.definition.specs.Table.{_=?_}
 use Rattle.definition.specs.Records.{Command, inside, outside, Change, addLearner, promoteLearner, removeReplica, Payload, normal, configuration, sameCommand, samePayload, changeNumber}
 use Rattle.definition.proofs.Store.{sameBytes-eq}
 use Rattle.definition.proofs.Laws.{and-l, and-r}

@@ -3,9 +3,6 @@ use native.Mathlib.Omega.{arith}
 use borrow.Author.Needs.{needs}
 use Rattle.checks.proofs.numbers.Statement.{statement}
 use Rattle.checks.proofs.numbers.Tie as tie
-use Rattle.checks.proofs.numbers.Reads as reads
-use Rattle.checks.proofs.numbers.Lts as lts
-use Rattle.checks.proofs.is_number.Reads as is-number-reads
 
 abbrev Inv-loop : tie.InvT-loop
 Inv-loop at end l i₀ i = Unit {0}

@@ -1,10 +1,6 @@
 use borrow.Author.Needs.{needs}
 use Rattle.checks.proofs.read_all.Statement.{statement}
 use Rattle.checks.proofs.read_all.Tie as tie
-use Rattle.checks.proofs.read_all.Reads as reads
-use Rattle.checks.proofs.read_all.Lts as lts
-use Rattle.checks.proofs.empty_line.Reads as empty-line-reads
-use Rattle.checks.proofs.read_some.Reads as read-some-reads
 
 abbrev Inv-loop : tie.InvT-loop
 Inv-loop line₀ turns₀ line turns = Unit {0}

@@ -3,9 +3,6 @@ use lib.ListN.{length}
 use borrow.Author.Needs.{needs}
 use Rattle.checks.proofs.read_bytes.Statement.{statement}
 use Rattle.checks.proofs.read_bytes.Tie as tie
-use Rattle.checks.proofs.read_bytes.Reads as reads
-use Rattle.checks.proofs.read_bytes.Lts as lts
-use Rattle.checks.proofs.read_byte.Reads as read-byte-reads
 
 abbrev Inv-loop : tie.InvT-loop
 Inv-loop bytes t₀ i₀ t i = Unit {0}

@@ -1,17 +1,17 @@
 -- Batches: each refusal and what the batch order decides, the records of the answer, the preview, and the command shown.
 -- Assumes nothing.
-use Prim.Native.Nat.{ℕ, _+_}
+use Prim.Native.Nat.{ℕ}
 use mathlib.Core.Bool.{Bool, true, false, _&&_}
 use mathlib.Core.List.{List, [], _∷_, _++_, map}
 use mathlib.Core.Option.{Option, none, some}
-use lib.ListN.{length, replicate}
+use lib.ListN.{replicate}
 use lib.Dec.{T}
 use Rattle.definition.specs.Table.{_=?_, every, Result, ok, refusal, u64-max}
-use Rattle.definition.specs.Records.{Identity, same, Payload, normal, configuration, addLearner, inside, outside, samePayload, LogEntry, HardState, Pointer, samePointer, Kind, entry, hardState, pointer}
-use Rattle.definition.specs.Log.{Entry, Log, PointerRecord, empty, base, count, snapshotBoundary, lastIndex, last, place, at, isHeld, predecessorTerm, sameTerm, sameContent, hardStateSuccessorRows, replayRows, placed, withEntry, beyond, raisedBy, withPointer, withHard, largestTerm, maximumObservedTerm}
+use Rattle.definition.specs.Records.{Identity, same, Payload, normal, configuration, addLearner, inside, outside, samePayload, HardState, samePointer, Kind, entry, hardState, pointer}
+use Rattle.definition.specs.Log.{Log, PointerRecord, empty, base, count, snapshotBoundary, lastIndex, last, place, at, isHeld, predecessorTerm, sameTerm, sameContent, hardStateSuccessorRows, replayRows, placed, withEntry, beyond, raisedBy, withPointer, withHard, largestTerm, maximumObservedTerm}
 use Rattle.definition.specs.Recovery.{held, State, lookup, placeOf, replicaOf}
 use Rattle.definition.specs.Batch.{BatchEntry, Batch, Prepared, Preview, batchRows, batchPointerRows, batchEntryRows, batchHardStateRows, concluded, hardened, extended, pointed, prepareOn, Shown, nothing, ofLog, ofBatch, storePlace, shownIn}
-use Rattle.definition.specs.Cases.Samples.{one, id, byte, logEntry, hardOf, pointerOf, snapshotAt, upTo, kE, kEp, logOf, plainLog, noLog, stateOf, only, sameHard, sameList, sameLog}
+use Rattle.definition.specs.Cases.Samples.{one, id, byte, logEntry, hardOf, pointerOf, snapshotAt, upTo, kE, kEp, logOf, plainLog, noLog, stateOf, sameHard, sameList, sameLog}
 
 -- Batches. A batch entry's command begins at a byte of the lent bytes.
 e : ℕ → ℕ → BatchEntry

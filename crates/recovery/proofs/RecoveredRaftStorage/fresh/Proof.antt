@@ -1,10 +1,6 @@
 use borrow.Author.Needs.{needs}
 use Rattle.recovery.proofs.RecoveredRaftStorage.fresh.Statement.{statement}
 use Rattle.recovery.proofs.RecoveredRaftStorage.fresh.Tie as tie
-use Rattle.recovery.proofs.RecoveredRaftStorage.fresh.Reads as reads
-use Rattle.recovery.proofs.RecoveredRaftStorage.fresh.Lts as lts
-use Rattle.recovery.proofs.no_entry.Reads as no-entry-reads
-use Rattle.recovery.proofs.no_header.Reads as no-header-reads
 
 -- src/lib.rt:76:13
 no-header-requires : tie.Need-no-header-requires
