@@ -8,6 +8,7 @@ pub mod Place
 pub mod Rank
 pub mod Routed
 pub mod Sound
+pub mod Step
 pub mod Store
 pub mod Test
 pub mod Turn

@@ -1,4 +1,6 @@
 // What is recovered of every replica: its log in place, its command bytes in a store that is lent beside it.
+pub mod soundness;
+
 use codec::MaybeHardState;
 use codec::MaybePointer;
 use frontier::RaftProgress;
