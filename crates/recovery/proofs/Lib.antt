@@ -1,5 +1,6 @@
 pub mod At
 pub mod Finish
+pub mod Finishes
 pub mod Fresh
 pub mod Link
 pub mod Observe

@@ -1,3 +1,4 @@
+pub mod Finishes
 pub mod Fit
 pub mod Meaning
 pub mod Model

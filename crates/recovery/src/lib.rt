@@ -1,4 +1,5 @@
 // What is recovered of every replica: its log in place, its command bytes in a store that is lent beside it.
+pub mod finishing;
 pub mod soundness;
 
 use codec::MaybeHardState;

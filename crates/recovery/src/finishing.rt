@@ -1,0 +1,76 @@
+// Finishing: each held replica's hard state is raised to the largest of its terms.
+use crate::RecoveredRaftStorage;
+use crate::soundness;
+use ids::Refusal;
+ghost use mathlib.Core.Path.{_≡_};
+ghost use Prim.Native.Nat.{_≤_, _<_};
+ghost use Rattle.view.specs.Model.{maximumTerm};
+ghost use Rattle.recovery.specs.Model.{headAt, entriesIn, finishedStorage};
+ghost use Rattle.recovery.specs.Sound.{Limits};
+ghost use Rattle.recovery.specs.Finishes.{Finishes};
+
+// What finishing is answered.
+pub enum FinishAnswer {
+    Finished,
+    Refused(Refusal),
+}
+
+// The answer, and the state after it.
+pub struct Finished {
+    pub answer: FinishAnswer,
+    pub state: RecoveredRaftStorage,
+}
+
+// The largest of the boundary's term and the terms held at replica place p.
+fn largest_term(state: RecoveredRaftStorage, p: usize) -> u64
+    requires { ⌜ (p < 8) × (headAt state p .len ≤ 64) ⌝ }
+    ensures { λ r. ⌜ r ≡ maximumTerm (headAt state p) (entriesIn state p) ⌝ }
+{
+    let head = state.heads[p];
+    let mut m = head.snapshot_term;
+    let mut q: usize = 0;
+    while q < head.len {
+        let e = state.entries[64 * p + q];
+        if m < e.term {
+            m = e.term;
+        }
+        q = q + 1;
+    }
+    m
+}
+
+// Every held replica is finished.
+fn finish_all(state: RecoveredRaftStorage) -> RecoveredRaftStorage
+    requires { ⌜ Limits state ⌝ }
+    ensures { λ r. ⌜ r ≡ finishedStorage state ⌝ }
+{
+    let mut t = state;
+    let mut j: usize = 0;
+    while j < t.held {
+        let m = largest_term(t, j);
+        let head = t.heads[j];
+        let next = head.normalize_hard_state_term(m);
+        t.heads[j] = next;
+        j = j + 1;
+    }
+    t
+}
+
+// Finishing of a state and the store that is lent beside it, of which no byte changes.
+pub fn finish(state: RecoveredRaftStorage, store: &[u8]) -> Finished
+    ensures { λ r. ⌜ Finishes state (now (store .entry)) r ⌝ }
+{
+    if !soundness::is_sound(state, store) {
+        let refused = FinishAnswer::Refused(Refusal::Unsound);
+        return Finished {
+            answer: refused,
+            state: state,
+        };
+    }
+    let next = finish_all(state);
+    let answer = FinishAnswer::Finished;
+    Finished {
+        answer: answer,
+        state: next,
+    }
+}
