@@ -1,5 +1,6 @@
 // What is recovered of every replica: its log in place, its command bytes in a store that is lent beside it.
 pub mod finishing;
+pub mod observed;
 pub mod soundness;
 
 use codec::MaybeHardState;
