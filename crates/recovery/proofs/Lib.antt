@@ -17,6 +17,5 @@ pub mod Sound
 pub mod Step
 pub mod Store
 pub mod Test
-pub mod Turn
 pub mod Walk
 pub mod Written
