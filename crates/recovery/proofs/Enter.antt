@@ -39,14 +39,14 @@ use Rattle.view.proofs.Kept.{kept-cell}
 use Rattle.view.proofs.Readers.{at-is, Held, held-at}
 use Rattle.view.proofs.Told.{tells-none, tells-held}
 use Rattle.view.proofs.Rows.{entry-rows, entry-answer}
-use Rattle.recovery.specs.declared.Scan.{Scan}
-use Rattle.recovery.specs.declared.RecoveredRaftStorage.{RecoveredRaftStorage}
+use Rattle.storage.specs.declared.Scan.{Scan}
+use Rattle.storage.specs.declared.RecoveredRaftStorage.{RecoveredRaftStorage}
 use Rattle.recovery.specs.declared.observed.Observed.{Observed}
-use Rattle.recovery.specs.Model.{headAt, entriesIn, bytesIn, scanNext, changed, changedStore, entered, placed, renewed, placedStore, appendedStore}
-use Rattle.recovery.specs.Meaning.{logAt, Step}
+use Rattle.storage.specs.Model.{headAt, entriesIn, bytesIn, scanNext, changed, changedStore, entered, placed, renewed, placedStore, appendedStore}
+use Rattle.storage.specs.Meaning.{logAt, Step}
 use Rattle.recovery.specs.Settle.{answerOf, refusedBy, Settles}
 use Rattle.recovery.specs.Enter.{Receives, Decided}
-use Rattle.recovery.proofs.At.{entries-length, bytes-length, step-at}
+use Rattle.storage.proofs.At.{entries-length, bytes-length, step-at}
 use Rattle.recovery.proofs.Settle.{refuses, place-below, entry-read}
 
 -- No row refuses what is answered otherwise, and a refusal is a row's.

@@ -16,15 +16,15 @@ use Rattle.definition.specs.Records.{Identity, same, before}
 use Rattle.definition.specs.Recovery.{lookup, placeOf, ascending}
 use Rattle.view.specs.declared.Header.{Header}
 use Rattle.view.specs.Meaning.{idOf}
-use Rattle.recovery.specs.declared.RecoveredRaftStorage.{RecoveredRaftStorage}
+use Rattle.storage.specs.declared.RecoveredRaftStorage.{RecoveredRaftStorage}
 use Rattle.recovery.specs.declared.observed.Found.{Found}
 use Rattle.recovery.specs.declared.observed.Found.the-variants as F
-use Rattle.recovery.specs.Model.{noHeader, headAt}
-use Rattle.recovery.specs.Meaning.{logAt, meaning}
-use Rattle.recovery.specs.Place.{standsAt, Stands}
+use Rattle.storage.specs.Model.{noHeader, headAt}
+use Rattle.storage.specs.Meaning.{logAt, meaning}
+use Rattle.storage.specs.Place.{standsAt, Stands}
 use Rattle.recovery.specs.Find.{foundFrom, foundAt}
-use Rattle.recovery.proofs.Place.{stands, held-found, held-place, open-found, open-place}
-use Rattle.recovery.proofs.Walk.{first-left}
+use Rattle.storage.proofs.Place.{stands, held-found, held-place, open-found, open-place}
+use Rattle.storage.proofs.Walk.{first-left}
 
 pub stands-start : (i : Identity) (n : ℕ) (hs : List Header) → standsAt i n hs ≡ 0 + standsAt i (n - 0) (drop 0 hs)
 stands-start i n hs = let e : n - 0 ≡ n = omega arith in rw e (omega arith)

@@ -14,14 +14,14 @@ use Rattle.view.specs.declared.Header.{Header}
 use Rattle.view.specs.declared.RecoveredRaftLogEntry.{RecoveredRaftLogEntry}
 use Rattle.view.specs.Meaning.{noEntry}
 use Rattle.view.specs.Model.{largestOf, maximumTerm, finished}
-use Rattle.recovery.specs.declared.RecoveredRaftStorage.{RecoveredRaftStorage}
+use Rattle.storage.specs.declared.RecoveredRaftStorage.{RecoveredRaftStorage}
 use Rattle.recovery.specs.declared.finishing.Finished.{Finished}
-use Rattle.recovery.specs.Model.{headAt, entriesIn, headed, finishedHead, finishedTo, finishedStorage}
-use Rattle.recovery.specs.Meaning.{recoveryOf}
-use Rattle.recovery.specs.Sound.{soundTest, Limits}
+use Rattle.storage.specs.Model.{headAt, entriesIn, headed, finishedHead, finishedTo, finishedStorage}
+use Rattle.storage.specs.Meaning.{recoveryOf}
+use Rattle.soundness.specs.Sound.{soundTest, Limits}
 use Rattle.recovery.specs.Finishes.{finishedDone, unsoundDone, Finishes}
-use Rattle.recovery.proofs.Finish.{finish-none, finish-one, finish-next}
-use Rattle.recovery.proofs.Sound.{test-linked, test-state, test-sound}
+use Rattle.storage.proofs.Finish.{finish-none, finish-one, finish-next}
+use Rattle.soundness.proofs.Sound.{test-linked, test-state, test-sound}
 use Rattle.recovery.proofs.Observe.{unsound-finished, finished-is, finished-test}
 
 -- The largest term so far, m, and those from place q on, of n.

@@ -12,8 +12,8 @@ use Rattle.store.proofs.Run.{turn-up, turn-down}
 use Rattle.view.specs.declared.Header.{Header}
 use Rattle.view.specs.declared.RecoveredRaftLogEntry.{RecoveredRaftLogEntry}
 use Rattle.view.specs.Meaning.{noEntry}
-use Rattle.recovery.specs.declared.RecoveredRaftStorage.{RecoveredRaftStorage}
-use Rattle.recovery.specs.Model.{noHeader}
+use Rattle.storage.specs.declared.RecoveredRaftStorage.{RecoveredRaftStorage}
+use Rattle.storage.specs.Model.{noHeader}
 use Rattle.recovery.specs.Moves.{withHeads, withEntries}
 
 -- Upwards, those from j on are moved.

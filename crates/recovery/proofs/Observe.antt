@@ -12,13 +12,13 @@ use Rattle.definition.specs.Two.{fits}
 use Rattle.definition.proofs.Sound.{sound-step, finish-is, sound-finish}
 use Rattle.definition.proofs.Store.{laid, sound-laid, observe-laid, finish-laid}
 use Rattle.view.specs.Meaning.{lsnOf}
-use Rattle.recovery.specs.declared.RecoveredRaftStorage.{RecoveredRaftStorage}
-use Rattle.recovery.specs.Model.{finishedStorage}
-use Rattle.recovery.specs.Meaning.{meaning, recoveryOf, Linked, Observes}
-use Rattle.recovery.specs.Sound.{soundTest}
-use Rattle.recovery.proofs.Store.{recovery-laid}
-use Rattle.recovery.proofs.Finish.{finish-means, finish-linked}
-use Rattle.recovery.proofs.Sound.{linked-test}
+use Rattle.storage.specs.declared.RecoveredRaftStorage.{RecoveredRaftStorage}
+use Rattle.storage.specs.Model.{finishedStorage}
+use Rattle.storage.specs.Meaning.{meaning, recoveryOf, Linked, Observes}
+use Rattle.soundness.specs.Sound.{soundTest}
+use Rattle.storage.proofs.Store.{recovery-laid}
+use Rattle.storage.proofs.Finish.{finish-means, finish-linked}
+use Rattle.soundness.proofs.Sound.{linked-test}
 
 -- 1: what is not sound stays as it is.
 unsound-call : (f : State → Out State) (w : Recovery) → ((t : State) → soundState t ≡ false → f t ≡ out (refused 1) t) → sound w ≡ false → withStore f w ≡ out (refused 1) w

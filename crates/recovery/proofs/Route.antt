@@ -15,12 +15,12 @@ use Rattle.ids.specs.declared.RaftReplicaIdentity.{RaftReplicaIdentity}
 use Rattle.ids.specs.Identity.{identityOf}
 use Rattle.view.specs.Meaning.{idOf}
 use Rattle.view.specs.Model.{emptyHeader}
-use Rattle.recovery.specs.declared.RecoveredRaftStorage.{RecoveredRaftStorage}
+use Rattle.storage.specs.declared.RecoveredRaftStorage.{RecoveredRaftStorage}
 use Rattle.recovery.specs.declared.observed.Found.the-variants as F
-use Rattle.recovery.specs.Model.{headAt, scanNext, scannedOnly, opened, openedStore}
-use Rattle.recovery.specs.Meaning.{logAt, meaning, Linked, Step, Observes}
+use Rattle.storage.specs.Model.{headAt, scanNext, scannedOnly, opened, openedStore}
+use Rattle.storage.specs.Meaning.{logAt, meaning, Linked, Step, Observes}
 use Rattle.recovery.specs.Settle.{Refuses, Accepts, Settles}
-use Rattle.recovery.proofs.Open.{new-log}
+use Rattle.storage.proofs.Open.{new-log}
 use Rattle.recovery.proofs.Routed.{held-refused, held-accepted, full-observes, new-refused, new-accepted}
 use Rattle.recovery.proofs.Find.{Told}
 

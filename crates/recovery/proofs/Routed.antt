@@ -18,13 +18,13 @@ use Rattle.ids.specs.declared.RaftReplicaIdentity.{RaftReplicaIdentity}
 use Rattle.ids.specs.Identity.{identityOf}
 use Rattle.view.specs.Meaning.{idOf}
 use Rattle.view.specs.Model.{emptyHeader}
-use Rattle.recovery.specs.declared.RecoveredRaftStorage.{RecoveredRaftStorage}
-use Rattle.recovery.specs.Model.{headAt, scanNext, scannedOnly, opened, openedStore}
-use Rattle.recovery.specs.Meaning.{logAt, meaning, Linked, Step, Observes}
-use Rattle.recovery.specs.Place.{Stands}
-use Rattle.recovery.proofs.Link.{scanned-linked, scanned-replicas, still-step}
-use Rattle.recovery.proofs.Open.{open-linked}
-use Rattle.recovery.proofs.Place.{scanned-is, replicas-length, held-found, held-step, open-found, opened-put, opened-step}
+use Rattle.storage.specs.declared.RecoveredRaftStorage.{RecoveredRaftStorage}
+use Rattle.storage.specs.Model.{headAt, scanNext, scannedOnly, opened, openedStore}
+use Rattle.storage.specs.Meaning.{logAt, meaning, Linked, Step, Observes}
+use Rattle.storage.specs.Place.{Stands}
+use Rattle.storage.proofs.Link.{scanned-linked, scanned-replicas, still-step}
+use Rattle.storage.proofs.Open.{open-linked}
+use Rattle.storage.proofs.Place.{scanned-is, replicas-length, held-found, held-step, open-found, opened-put, opened-step}
 
 -- On the definition's state.
 module _ (s : State) (lsn : ℕ) (i : Identity) (k : Kind) where

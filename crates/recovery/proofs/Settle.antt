@@ -28,13 +28,13 @@ use Rattle.view.specs.Decisions.{maybeTermOf, hardStateRowsOf, pointerRowsOf}
 use Rattle.view.proofs.Readers.{Held, held-at}
 use Rattle.view.proofs.Rows.{hard-state-rows, pointer-rows}
 use Rattle.view.proofs.Told.{term-at-is}
-use Rattle.recovery.specs.declared.RecoveredRaftStorage.{RecoveredRaftStorage}
+use Rattle.storage.specs.declared.RecoveredRaftStorage.{RecoveredRaftStorage}
 use Rattle.recovery.specs.declared.observed.Observed.{Observed}
-use Rattle.recovery.specs.Model.{headAt, entriesIn, bytesIn, scanNext, headed, dropped, droppedStore}
-use Rattle.recovery.specs.Meaning.{logAt}
+use Rattle.storage.specs.Model.{headAt, entriesIn, bytesIn, scanNext, headed, dropped, droppedStore}
+use Rattle.storage.specs.Meaning.{logAt}
 use Rattle.recovery.specs.Moves.{Writes}
 use Rattle.recovery.specs.Settle.{answerOf, refusedBy, Settles}
-use Rattle.recovery.proofs.Link.{hard-state-step, pointer-step}
+use Rattle.storage.proofs.Link.{hard-state-step, pointer-step}
 
 -- Where an index is held the place is one of 64, and the entry is read there.
 pub place-below : (h : Header) (x q : ℕ) → placeOf h x ≡ Q.Held q → h .len ≤ 64 → q < 64

@@ -18,8 +18,8 @@ use Rattle.view.specs.declared.Header.{Header}
 use Rattle.view.specs.Model.{emptyHeader}
 use Rattle.view.specs.Kept.{cellFor}
 use Rattle.view.proofs.Kept.{kept-cell}
-use Rattle.recovery.specs.declared.RecoveredRaftStorage.{RecoveredRaftStorage}
-use Rattle.recovery.specs.Model.{headAt, opened, placedStore}
+use Rattle.storage.specs.declared.RecoveredRaftStorage.{RecoveredRaftStorage}
+use Rattle.storage.specs.Model.{headAt, opened, placedStore}
 use Rattle.recovery.specs.Moves.{withHeads, withEntries, Opens, Writes, Enters}
 
 -- The entries were moved, then the headers, then the new one was put.

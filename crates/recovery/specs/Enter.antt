@@ -12,9 +12,9 @@ use Rattle.codec.specs.Records.{payloadOf, logEntryOf}
 use Rattle.view.specs.declared.Existing.{Existing}
 use Rattle.view.specs.declared.RaftLogReplayOutcome.{RaftLogReplayOutcome}
 use Rattle.view.specs.Decisions.{Tells, outcomeOf, entryAnswer}
-use Rattle.recovery.specs.declared.RecoveredRaftStorage.{RecoveredRaftStorage}
-use Rattle.recovery.specs.Model.{headAt}
-use Rattle.recovery.specs.Meaning.{logAt}
+use Rattle.storage.specs.declared.RecoveredRaftStorage.{RecoveredRaftStorage}
+use Rattle.storage.specs.Model.{headAt}
+use Rattle.storage.specs.Meaning.{logAt}
 use Rattle.recovery.specs.Moves.{Writes}
 
 -- A record whose command lies in the lent bytes.

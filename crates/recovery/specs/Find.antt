@@ -5,11 +5,11 @@ use Prim.Native.Nat.{ℕ}
 use lib.Dec.{leb}
 use Rattle.definition.specs.Records.{Identity, same}
 use Rattle.view.specs.Meaning.{idOf}
-use Rattle.recovery.specs.declared.RecoveredRaftStorage.{RecoveredRaftStorage}
+use Rattle.storage.specs.declared.RecoveredRaftStorage.{RecoveredRaftStorage}
 use Rattle.recovery.specs.declared.observed.Found.{Found}
 use Rattle.recovery.specs.declared.observed.Found.the-variants as F
-use Rattle.recovery.specs.Model.{headAt}
-use Rattle.recovery.specs.Place.{standsAt}
+use Rattle.storage.specs.Model.{headAt}
+use Rattle.storage.specs.Place.{standsAt}
 
 -- Held at p, or it would be opened there.
 abbrev pub foundFrom : RecoveredRaftStorage → Identity → ℕ → Found

@@ -7,12 +7,12 @@ use Prim.Native.Nat.{ℕ}
 use Rattle.definition.specs.Log as D
 use Rattle.definition.specs.Recovery.{out, sound, finish}
 use Rattle.ids.specs.declared.Refusal.the-variants as R
-use Rattle.recovery.specs.declared.RecoveredRaftStorage.{RecoveredRaftStorage}
+use Rattle.storage.specs.declared.RecoveredRaftStorage.{RecoveredRaftStorage}
 use Rattle.recovery.specs.declared.finishing.FinishAnswer.the-variants as F
 use Rattle.recovery.specs.declared.finishing.Finished.{Finished}
-use Rattle.recovery.specs.Model.{finishedStorage}
-use Rattle.recovery.specs.Meaning.{recoveryOf}
-use Rattle.recovery.specs.Sound.{soundTest}
+use Rattle.storage.specs.Model.{finishedStorage}
+use Rattle.storage.specs.Meaning.{recoveryOf}
+use Rattle.soundness.specs.Sound.{soundTest}
 
 -- Every held replica is finished.
 abbrev pub finishedDone : RecoveredRaftStorage → Finished

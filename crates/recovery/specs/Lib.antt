@@ -1,10 +1,5 @@
 pub mod Enter
 pub mod Find
 pub mod Finishes
-pub mod Fit
-pub mod Meaning
-pub mod Model
 pub mod Moves
-pub mod Place
 pub mod Settle
-pub mod Sound

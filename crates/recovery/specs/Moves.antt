@@ -10,9 +10,9 @@ use Rattle.codec.specs.declared.RaftLogEntryRecord.{RaftLogEntryRecord}
 use Rattle.codec.specs.Records.{payloadOf}
 use Rattle.view.specs.declared.Header.{Header}
 use Rattle.view.specs.declared.RecoveredRaftLogEntry.{RecoveredRaftLogEntry}
-use Rattle.recovery.specs.declared.RecoveredRaftStorage.{RecoveredRaftStorage}
-use Rattle.recovery.specs.Meaning.{Linked}
-use Rattle.recovery.specs.Model.{headAt}
+use Rattle.storage.specs.declared.RecoveredRaftStorage.{RecoveredRaftStorage}
+use Rattle.storage.specs.Meaning.{Linked}
+use Rattle.storage.specs.Model.{headAt}
 
 -- Other headers, other entries.
 abbrev pub withHeads : RecoveredRaftStorage → List Header → RecoveredRaftStorage

@@ -13,12 +13,12 @@ use Rattle.ids.specs.declared.Lsn.{Lsn}
 use Rattle.ids.specs.declared.Refusal.{Refusal}
 use Rattle.ids.specs.Refusal.{numberOf}
 use Rattle.view.specs.Meaning.{idOf}
-use Rattle.recovery.specs.declared.RecoveredRaftStorage.{RecoveredRaftStorage}
+use Rattle.storage.specs.declared.RecoveredRaftStorage.{RecoveredRaftStorage}
 use Rattle.recovery.specs.declared.observed.Observation.{Observation}
 use Rattle.recovery.specs.declared.observed.Observation.the-variants as O
 use Rattle.recovery.specs.declared.observed.Observed.{Observed}
-use Rattle.recovery.specs.Model.{headAt, scanNext, scannedOnly}
-use Rattle.recovery.specs.Meaning.{logAt, Step}
+use Rattle.storage.specs.Model.{headAt, scanNext, scannedOnly}
+use Rattle.storage.specs.Meaning.{logAt, Step}
 
 -- What an answer means.
 abbrev pub answerOf : Observation → D.Answer

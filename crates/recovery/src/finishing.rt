@@ -1,12 +1,11 @@
 // Finishing: each held replica's hard state is raised to the largest of its terms.
-use crate::RecoveredRaftStorage;
-use crate::soundness;
+use storage::RecoveredRaftStorage;
 use ids::Refusal;
 ghost use mathlib.Core.Path.{_≡_};
 ghost use Prim.Native.Nat.{_≤_, _<_};
 ghost use Rattle.view.specs.Model.{maximumTerm};
-ghost use Rattle.recovery.specs.Model.{headAt, entriesIn, finishedStorage};
-ghost use Rattle.recovery.specs.Sound.{Limits};
+ghost use Rattle.storage.specs.Model.{headAt, entriesIn, finishedStorage};
+ghost use Rattle.soundness.specs.Sound.{Limits};
 ghost use Rattle.recovery.specs.Finishes.{Finishes};
 
 // What finishing is answered.

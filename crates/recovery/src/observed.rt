@@ -1,6 +1,6 @@
 // The moves and writes of one record: where its replica stands, a place opened for it, and what is kept of it there.
-use crate::RecoveredRaftStorage;
-use crate::Scan;
+use storage::RecoveredRaftStorage;
+use storage::Scan;
 use codec::HardState;
 use codec::RaftLogEntryRecord;
 use codec::RaftSnapshotPointerRecord;
@@ -30,11 +30,11 @@ ghost use Rattle.view.specs.Readers.{termAt, priorOf};
 ghost use Rattle.view.specs.Decisions.{maybeTermOf, Tells};
 ghost use Rattle.view.specs.Model.{emptyHeader, renewedEntry, withHardState, withPointer, coveredBy};
 ghost use Rattle.view.specs.Kept.{keptEntry, cellFor};
-ghost use Rattle.recovery.specs.Model.{headAt, entriesIn, scanNext, scannedOnly, withHead, headed, entered, placed, renewed, placedStore, appendedStore, dropped, droppedStore, opened, openedStore};
-ghost use Rattle.recovery.specs.Place.{standsAt};
+ghost use Rattle.storage.specs.Model.{headAt, entriesIn, scanNext, scannedOnly, withHead, headed, entered, placed, renewed, placedStore, appendedStore, dropped, droppedStore, opened, openedStore};
+ghost use Rattle.storage.specs.Place.{standsAt};
 ghost use Rattle.recovery.specs.Find.{foundAt};
 ghost use Rattle.recovery.specs.Moves.{withHeads, withEntries, Opens, Writes, Enters};
-ghost use Rattle.recovery.specs.Meaning.{logAt};
+ghost use Rattle.storage.specs.Meaning.{logAt};
 ghost use Rattle.recovery.specs.Enter.{Receives, Decided};
 ghost use Rattle.recovery.specs.Settle.{answerOf, refusedBy, Settles};
 

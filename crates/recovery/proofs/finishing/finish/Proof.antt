@@ -4,7 +4,7 @@ use mathlib.Core.Path.{_≡_, refl, sym, _∙_}
 use borrow.Author.Needs.{needs}
 use borrow.Author.Tests.{not-true, not-false}
 use lib.ListN.{length-map, length}
-use Rattle.recovery.proofs.Sound.{test-sound}
+use Rattle.soundness.proofs.Sound.{test-sound}
 use Rattle.recovery.proofs.Finishes.{finishes-sound, finishes-unsound}
 use Rattle.recovery.proofs.finishing.finish.Statement.{statement}
 use Rattle.recovery.proofs.finishing.finish.Tie as tie

@@ -7,7 +7,7 @@ use native.Mathlib.Omega.{arith}
 use borrow.Author.Needs.{needs}
 use lib.ListN.{length-map, length}
 use Rattle.view.specs.Model.{maximumTerm}
-use Rattle.recovery.specs.Model.{headAt, entriesIn}
+use Rattle.storage.specs.Model.{headAt, entriesIn}
 use Rattle.recovery.proofs.Finishes.{largestLeft, largest-begin, largest-turn, largest-end, larger, not-larger}
 use Rattle.recovery.proofs.finishing.largest_term.Statement.{statement}
 use Rattle.recovery.proofs.finishing.largest_term.Tie as tie

@@ -3,7 +3,7 @@
 use mathlib.Core.Path.{_≡_}
 use Prim.Native.Nat.{_≤_}
 use native.Mathlib.Omega.{arith}
-use Rattle.recovery.specs.Model.{headAt}
+use Rattle.storage.specs.Model.{headAt}
 use Rattle.recovery.proofs.Written.{few-entries}
 use borrow.Author.Needs.{needs}
 use Rattle.recovery.proofs.observed.drop_entries.Statement.{statement}

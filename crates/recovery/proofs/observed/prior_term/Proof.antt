@@ -2,7 +2,7 @@
 -- Assumes nothing.
 use mathlib.Core.Path.{sym, _∙_}
 use Prim.Native.Nat.{_-_, _<_}
-use Rattle.recovery.specs.Model.{headAt, entriesIn}
+use Rattle.storage.specs.Model.{headAt, entriesIn}
 use Rattle.recovery.proofs.Settle.{place-below, prior-none, prior-held}
 use borrow.Author.Needs.{needs}
 use Rattle.recovery.proofs.observed.prior_term.Statement.{statement}

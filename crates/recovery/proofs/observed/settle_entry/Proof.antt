@@ -2,7 +2,7 @@
 -- Assumes nothing.
 use mathlib.Core.Path.{sym, _∙_}
 use Rattle.view.proofs.Told.{predecessor-is}
-use Rattle.recovery.specs.Model.{headAt, entriesIn, bytesIn}
+use Rattle.storage.specs.Model.{headAt, entriesIn, bytesIn}
 use Rattle.recovery.proofs.Written.{few-entries}
 use borrow.Author.Needs.{needs}
 use Rattle.recovery.proofs.observed.settle_entry.Statement.{statement}

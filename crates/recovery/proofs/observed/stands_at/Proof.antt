@@ -7,7 +7,7 @@ use borrow.Author.Needs.{needs}
 use borrow.Author.Tests.{not-true, not-false}
 use lib.ListN.{drop}
 use Rattle.ids.specs.Identity.{identityOf}
-use Rattle.recovery.specs.Place.{standsAt}
+use Rattle.storage.specs.Place.{standsAt}
 use Rattle.recovery.proofs.Find.{stands-start, stands-turn, stands-stop, stands-end}
 use Rattle.recovery.proofs.observed.stands_at.Statement.{statement}
 use Rattle.recovery.proofs.observed.stands_at.Tie as tie

@@ -1,0 +1,164 @@
+-- What the definition finds for an identity, and keeps for it, by the place where it stands.
+-- Assumes nothing.
+use mathlib.Core.Path.{_≡_, refl, sym, ap, _∙_}
+use mathlib.Core.Bool.{Bool, true, false}
+use mathlib.Core.List.{List, [], _∷_, _++_}
+use mathlib.Core.Option.{none, some}
+use Prim.Native.Nat.{ℕ, zero, suc, _<_, _≤_}
+use native.Mathlib.Omega.{arith}
+use borrow.Author.Tests.{ltb-true, ltb-false, eqb-true, eqb-false}
+use lib.Dec.{ltb, eqb}
+use lib.ListN.{length, getD, set, take, drop}
+use Rattle.definition.specs.Table.{if_then_else_}
+use Rattle.definition.specs.Records.{Identity, same, before}
+use Rattle.definition.specs.Log as D
+use Rattle.definition.specs.Recovery.{Held, held, lookup, placeOf, put, ascending, scan}
+use Rattle.definition.proofs.Order.{same-eq, before-trans, before-same}
+use Rattle.ids.specs.declared.Lsn.{Lsn}
+use Rattle.ids.specs.declared.RaftReplicaIdentity.{RaftReplicaIdentity}
+use Rattle.ids.specs.Identity.{identityOf}
+use Rattle.view.specs.declared.Header.{Header}
+use Rattle.view.specs.Meaning.{lsnOf, idOf}
+use Rattle.view.specs.Model.{emptyHeader}
+use Rattle.view.proofs.Tab.{length-tab}
+use Rattle.storage.specs.declared.RecoveredRaftStorage.{RecoveredRaftStorage}
+use Rattle.storage.specs.Model.{noHeader, headAt, scanNext, opened, openedStore}
+use Rattle.storage.specs.Meaning.{heldAt, logAt, meaning, Linked, Step}
+use Rattle.storage.specs.Place.{standsAt, Stands}
+use Rattle.storage.proofs.Rank.{not-same-back, else-before, ascending-at, lookup-at, place-at, put-at, put-between, lookup-none, place-none}
+use Rattle.storage.proofs.Walk.{getD-next}
+use Rattle.storage.proofs.Open.{new-head, open-means}
+
+-- The walk finds the place.
+module _ (i : Identity) where
+  beforeAt : List Header → ℕ → Bool
+  beforeAt hs j = before (idOf (getD hs j noHeader)) i
+
+  next-at : (hs : List Header) (j : ℕ) → beforeAt hs (suc j) ≡ beforeAt (drop 1 hs) j
+  unfolding beforeAt
+  next-at hs j = ap (λ (h : Header). before (idOf h) i) (sym (getD-next hs j noHeader))
+
+  walk-low : (n : ℕ) (hs : List Header) (j : ℕ) → j < standsAt i n hs → beforeAt hs j ≡ true
+  unfolding standsAt beforeAt
+  walk-low zero hs j l = absurd (omega arith)
+  walk-low (suc n) hs j l = go (beforeAt hs 0) refl j l (walk-low n (drop 1 hs))
+    where
+      go : (b : Bool) → beforeAt hs 0 ≡ b → (j : ℕ) → j < (if b then suc (standsAt i n (drop 1 hs)) else 0)
+          → ((j : ℕ) → j < standsAt i n (drop 1 hs) → beforeAt (drop 1 hs) j ≡ true) → beforeAt hs j ≡ true
+      go false e j l r = absurd (omega arith)
+      go true e zero l r = e
+      go true e (suc j) l r = next-at hs j ∙ r j (omega arith)
+
+  walk-within : (n : ℕ) (hs : List Header) → standsAt i n hs ≤ n
+  unfolding standsAt beforeAt
+  walk-within zero hs = omega arith
+  walk-within (suc n) hs = go (beforeAt hs 0) (walk-within n (drop 1 hs))
+    where
+      go : (b : Bool) → standsAt i n (drop 1 hs) ≤ n → (if b then suc (standsAt i n (drop 1 hs)) else 0) ≤ suc n
+      go true r = omega arith
+      go false r = omega arith
+
+  walk-stop : (n : ℕ) (hs : List Header) → standsAt i n hs < n → beforeAt hs (standsAt i n hs) ≡ false
+  unfolding standsAt beforeAt
+  walk-stop zero hs l = absurd (omega arith)
+  walk-stop (suc n) hs l = go (beforeAt hs 0) refl l (walk-stop n (drop 1 hs))
+    where
+      go : (b : Bool) → beforeAt hs 0 ≡ b → (if b then suc (standsAt i n (drop 1 hs)) else 0) < suc n
+          → (standsAt i n (drop 1 hs) < n → beforeAt (drop 1 hs) (standsAt i n (drop 1 hs)) ≡ false)
+          → beforeAt hs (if b then suc (standsAt i n (drop 1 hs)) else 0) ≡ false
+      go true e l r = next-at hs (standsAt i n (drop 1 hs)) ∙ r (omega arith)
+      go false e l r = e
+
+  pub stands : (s : RecoveredRaftStorage) → Stands s i (standsAt i (s .held) (s .heads))
+  unfolding beforeAt
+  stands s = record { low = walk-low (s .held) (s .heads); within = walk-within (s .held) (s .heads); stop = walk-stop (s .held) (s .heads) }
+
+-- After a record was scanned.
+pub scanned-is : (s s′ : RecoveredRaftStorage) (st st′ : List ℕ) (l : Lsn) (r : List (Held (D.Log ℕ))) → s′ .scan ≡ scanNext (s .scan) l → meaning s′ st′ .replicas ≡ r
+    → meaning s′ st′ ≡ scan (meaning s st) (l .0) r
+unfolding meaning scan
+scanned-is s s′ st st′ l r e m = λ t. record { replicas = m t; scannedRecords = e t .«scanned_records»; lastScannedLsn = lsnOf (e t .«last_scanned_lsn») }
+
+set-at : {A : Type 0} (l : List A) (p : ℕ) (x y : A) → p ≤ length l → set (take p l ++ (x ∷ drop p l)) p y ≡ take p l ++ (y ∷ drop p l)
+set-at [] zero x y h = refl
+set-at [] (suc p) x y h = absurd (omega arith)
+set-at (a ∷ l) zero x y h = refl
+set-at {A} (a ∷ l) (suc p) x y h = ap (λ (m : List A). a ∷ m) (set-at l p x y (omega arith))
+
+pub replicas-length : (s : RecoveredRaftStorage) (st : List ℕ) → length (meaning s st .replicas) ≡ s .held
+unfolding meaning
+replicas-length s st = length-tab (s .held) (heldAt s st)
+
+module _ (s : RecoveredRaftStorage) (st : List ℕ) (i : Identity) (p : ℕ) (k : Stands s i p) where
+  -- It is held at p.
+  module _ (lt : p < s .held) (eq : same i (idOf (headAt s p)) ≡ true) where
+    pub held-found : lookup i (meaning s st .replicas) ≡ some (logAt s st p)
+    unfolding meaning
+    held-found = lookup-at i (s .held) p (heldAt s st) (k .low) lt eq
+
+    pub held-place : placeOf i (meaning s st .replicas) ≡ some p
+    unfolding meaning
+    held-place = place-at i (s .held) p (heldAt s st) (k .low) lt eq
+
+    not-yet : before i (idOf (headAt s p)) ≡ false
+    not-yet = go (before i (idOf (headAt s p))) refl
+      where
+        go : (b : Bool) → before i (idOf (headAt s p)) ≡ b → b ≡ false
+        go false x = refl
+        go true x = sym eq ∙ before-same i (idOf (headAt s p)) x
+
+    held-put : (v : D.Log ℕ) → put i v (meaning s st .replicas) ≡ set (meaning s st .replicas) p (held i v)
+    unfolding meaning
+    held-put v = put-at i v (s .held) p (heldAt s st) (k .low) lt not-yet eq
+
+    -- a step there keeps a log for it
+    pub held-step : (v : D.Log ℕ) (s′ : RecoveredRaftStorage) (st′ : List ℕ) → Step s st p (held (idOf (headAt s p)) v) s′ st′
+        → meaning s′ st′ .replicas ≡ put i v (meaning s st .replicas)
+    held-step v s′ st′ q =
+        q .means ∙ ap (λ (j : Identity). set (meaning s st .replicas) p (held j v)) (sym (same-eq i (idOf (headAt s p)) eq)) ∙ sym (held-put v)
+
+  -- It is not held; it would stand at p.
+  module _ (ne : p < s .held → same i (idOf (headAt s p)) ≡ false) where
+    over : p < s .held → before i (idOf (headAt s p)) ≡ true
+    over l = else-before i (idOf (headAt s p)) (k .stop l) (ne l)
+
+    open-put : (v : D.Log ℕ) → put i v (meaning s st .replicas) ≡ take p (meaning s st .replicas) ++ (held i v ∷ drop p (meaning s st .replicas))
+    unfolding meaning
+    open-put v = put-between i v (s .held) p (heldAt s st) (k .low) (k .within) over
+
+    module _ (asc : ascending (meaning s st .replicas) ≡ true) where
+      none-same : (j : ℕ) → j < s .held → same i (idOf (headAt s j)) ≡ false
+      unfolding meaning
+      none-same j l = go (ltb j p) refl (eqb j p) refl
+        where
+          go : (b : Bool) → ltb j p ≡ b → (c : Bool) → eqb j p ≡ c → same i (idOf (headAt s j)) ≡ false
+          go true e c e′ = not-same-back (idOf (headAt s j)) i (k .low j (ltb-true j p e))
+          go false e true e′ = let x : j ≡ p = eqb-true j p e′ in rw x (ne (omega arith))
+          go false e false e′ =
+              let lp : p < j = omega (arith, ltb-false j p e, eqb-false j p e′) in
+              let mid : before (idOf (headAt s p)) (idOf (headAt s j)) ≡ true = ascending-at (s .held) (heldAt s st) asc p j lp l in
+              before-same i (idOf (headAt s j)) (before-trans i (idOf (headAt s p)) (idOf (headAt s j)) (over (omega arith)) mid)
+
+      pub open-found : lookup i (meaning s st .replicas) ≡ none
+      unfolding meaning
+      open-found = lookup-none i (s .held) (heldAt s st) none-same
+
+      pub open-place : placeOf i (meaning s st .replicas) ≡ none
+      unfolding meaning
+      open-place = place-none i (s .held) (heldAt s st) none-same
+
+-- A place is opened for an identity that is not held, and perhaps a step follows there.
+module _ (s : RecoveredRaftStorage) (st : List ℕ) (i : RaftReplicaIdentity) (p : ℕ) (k : Stands s (identityOf i) p)
+    (ne : p < s .held → same (identityOf i) (idOf (headAt s p)) ≡ false) (lk : Linked s st) (lt : s .held < 8) where
+  pub opened-put : meaning (opened s p (emptyHeader i)) (openedStore st p (s .held)) .replicas ≡ put (identityOf i) D.empty (meaning s st .replicas)
+  opened-put = open-means s st p i lk (k .within) lt ∙ sym (open-put s st (identityOf i) p k ne D.empty)
+
+  pub opened-step : (v : D.Log ℕ) (s′ : RecoveredRaftStorage) (st′ : List ℕ)
+      → Step (opened s p (emptyHeader i)) (openedStore st p (s .held)) p (held (idOf (headAt (opened s p (emptyHeader i)) p)) v) s′ st′
+      → meaning s′ st′ .replicas ≡ put (identityOf i) v (meaning s st .replicas)
+  opened-step v s′ st′ q =
+      q .means
+      ∙ ap (λ (h : Header). set (meaning (opened s p (emptyHeader i)) (openedStore st p (s .held)) .replicas) p (held (idOf h) v)) (new-head s st p i lk (k .within) lt)
+      ∙ ap (λ (l : List (Held (D.Log ℕ))). set l p (held (identityOf i) v)) (open-means s st p i lk (k .within) lt)
+      ∙ set-at (meaning s st .replicas) p (held (identityOf i) D.empty) (held (identityOf i) v) (omega (arith, k .within, replicas-length s st))
+      ∙ sym (open-put s st (identityOf i) p k ne v)

@@ -1,0 +1,3 @@
+pub mod Meaning
+pub mod Model
+pub mod Place

@@ -1,0 +1,23 @@
+-- Where a replica stands, or would: after the held places whose identities are before its own.
+-- Assumes nothing.
+use mathlib.Core.Path.{_≡_}
+use mathlib.Core.Bool.{true, false}
+use mathlib.Core.List.{List}
+use Prim.Native.Nat.{ℕ, zero, suc, _<_, _≤_}
+use lib.ListN.{getD, drop}
+use Rattle.definition.specs.Table.{if_then_else_}
+use Rattle.definition.specs.Records.{Identity, before}
+use Rattle.view.specs.declared.Header.{Header}
+use Rattle.view.specs.Meaning.{idOf}
+use Rattle.storage.specs.declared.RecoveredRaftStorage.{RecoveredRaftStorage}
+use Rattle.storage.specs.Model.{noHeader, headAt}
+
+-- How many of the first n headers come before i, up to the first that does not.
+unfoldable pub standsAt : Identity → ℕ → List Header → ℕ
+standsAt i zero hs = 0
+standsAt i (suc n) hs = if before (idOf (getD hs 0 noHeader)) i then suc (standsAt i n (drop 1 hs)) else 0
+
+pub record Stands (s : RecoveredRaftStorage) (i : Identity) (p : ℕ) : Type 0 where
+  pub low : (j : ℕ) → j < p → before (idOf (headAt s j)) i ≡ true
+  pub within : p ≤ s .held
+  pub stop : p < s .held → before (idOf (headAt s p)) i ≡ false
