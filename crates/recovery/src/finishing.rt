@@ -1,6 +1,6 @@
 // Finishing: each held replica's hard state is raised to the largest of its terms.
-use storage::RecoveredRaftStorage;
 use ids::Refusal;
+use storage::RecoveredRaftStorage;
 ghost use mathlib.Core.Path.{_≡_};
 ghost use Prim.Native.Nat.{_≤_, _<_};
 ghost use Rattle.view.specs.Model.{maximumTerm};

@@ -1,6 +1,4 @@
 // The moves and writes of one record: where its replica stands, a place opened for it, and what is kept of it there.
-use storage::RecoveredRaftStorage;
-use storage::Scan;
 use codec::HardState;
 use codec::RaftLogEntryRecord;
 use codec::RaftSnapshotPointerRecord;
@@ -8,6 +6,8 @@ use ids::Checked;
 use ids::Lsn;
 use ids::RaftReplicaIdentity;
 use ids::Refusal;
+use storage::RecoveredRaftStorage;
+use storage::Scan;
 use view::Existing;
 use view::Header;
 use view::MaybeLsn;

@@ -1,9 +1,9 @@
 // The test of soundness: the headers, the held entries and their cells, and zeros in the rest of each block and of the store.
-use storage::RecoveredRaftStorage;
 use codec::MaybeHardState;
 use codec::MaybePointer;
 use ids::Lsn;
 use ids::RaftReplicaIdentity;
+use storage::RecoveredRaftStorage;
 use view::EntryPayload;
 use view::Header;
 use view::MaybeLsn;
