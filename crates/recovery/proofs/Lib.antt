@@ -1,9 +1,13 @@
-pub mod Enter
-pub mod Find
+pub mod Chunking
 pub mod Finishes
 pub mod Moves
 pub mod Observe
+pub mod One
+pub mod Ready
 pub mod Route
 pub mod Routed
-pub mod Settle
+pub mod Running
+pub mod Scanned
+pub mod Stepped
+pub mod Turn
 pub mod Written

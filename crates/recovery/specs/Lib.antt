@@ -1,5 +1,5 @@
-pub mod Enter
-pub mod Find
 pub mod Finishes
 pub mod Moves
+pub mod Observe
+pub mod Runs
 pub mod Settle

@@ -10,28 +10,10 @@ use Rattle.definition.specs.Records.{Identity, Kind}
 use Rattle.definition.specs.Log as D
 use Rattle.definition.specs.Recovery.{held}
 use Rattle.ids.specs.declared.Lsn.{Lsn}
-use Rattle.ids.specs.declared.Refusal.{Refusal}
-use Rattle.ids.specs.Refusal.{numberOf}
 use Rattle.view.specs.Meaning.{idOf}
 use Rattle.storage.specs.declared.RecoveredRaftStorage.{RecoveredRaftStorage}
-use Rattle.recovery.specs.declared.observed.Observation.{Observation}
-use Rattle.recovery.specs.declared.observed.Observation.the-variants as O
-use Rattle.recovery.specs.declared.observed.Observed.{Observed}
 use Rattle.storage.specs.Model.{headAt, scanNext, scannedOnly}
 use Rattle.storage.specs.Meaning.{logAt, Step}
-
--- What an answer means.
-abbrev pub answerOf : Observation → D.Answer
-answerOf O.Counted = D.counted
-answerOf O.Appended = D.appended
-answerOf O.IdempotentReplay = D.idempotentReplay
-answerOf (O.ReplacedSuffix r) = D.replacedSuffix (record { removedEntries = r .«removed_entries» })
-answerOf O.Kept = D.kept
-answerOf (O.Refused why) = D.refused (numberOf why)
-
--- Nothing but the scan changes.
-abbrev pub refusedBy : RecoveredRaftStorage → Lsn → Refusal → Observed
-refusedBy s l why = record { answer = O.Refused why; state = scannedOnly s (scanNext (s .scan) l) }
 
 -- A record of kind b, at LSN l, of the replica i that stands at p: a row refuses it, and it is scanned only ..
 pub record Refuses (s : RecoveredRaftStorage) (st : List ℕ) (p : ℕ) (i : Identity) (b : Kind) (l : Lsn) (a : D.Answer) (s′ : RecoveredRaftStorage) (st′ : List ℕ) : Type 0 where

@@ -1,3 +1,4 @@
 // Recovery from a journal: observing its records, finishing, and what is read of it then.
 pub mod finishing;
-pub mod observed;
+pub mod observing;
+pub mod placing;

@@ -1,20 +1,20 @@
 -- A change at one replica: another header, other entries and other bytes in its own places. The others mean what they meant.
 -- Assumes nothing.
-use mathlib.Core.Path.{_≡_, refl, ap, _∙_}
+use mathlib.Core.Path.{_≡_, refl, sym, ap, _∙_}
 use mathlib.Core.Bool.{Bool, true, false}
 use mathlib.Core.Logic.{⊎-elim, _⊎_, inl, inr}
-use mathlib.Core.List.{List}
-use Prim.Native.Nat.{ℕ, suc, _+_, _*_, _<_, _≤_}
-use native.Mathlib.Nat.{mul-le-mul-left}
+use mathlib.Core.List.{List, [], _∷_, _++_}
+use Prim.Native.Nat.{ℕ, zero, suc, _+_, _*_, _<_, _≤_}
+use native.Mathlib.Nat.{add-zero, mul-le-mul-left}
 use native.Mathlib.Omega.{arith}
 use borrow.Author.Tests.{ltb-true, ltb-false, eqb-true, eqb-false}
 use lib.Dec.{ltb, eqb}
-use lib.ListN.{length, set, length-set}
-use lib.Seq.{getD-set-same, getD-set-other}
+use lib.ListN.{length, getD, set, take, drop, length-append, length-set}
+use lib.Seq.{drop-at, getD-set-same, getD-set-other, length-take-le}
 use Rattle.definition.specs.Log.{Log}
 use Rattle.definition.specs.Recovery.{Held}
 use Rattle.store.specs.Splice.{part, splice}
-use Rattle.store.proofs.Part.{length-part, part-before, part-after, block-own, length-splice}
+use Rattle.store.proofs.Part.{length-part, part-before, part-in, part-after, block-own, in-block, length-splice}
 use Rattle.view.specs.declared.Header.{Header}
 use Rattle.view.specs.declared.RecoveredRaftLogEntry.{RecoveredRaftLogEntry}
 use Rattle.view.specs.Meaning.{heldOf, Fits}
@@ -42,6 +42,38 @@ block-other w d p ys j e l ne =
 
     upper : p < j → w * p + length ys ≤ w * j
     upper h = omega (arith, mul-le-mul-left {m = suc p} {n = j} w h)
+
+module _ {A : Type 0} where
+  -- A block that is replaced twice, and an element by itself.
+  splice-over : (d : List A) (at : ℕ) (xs ys : List A) → length xs ≡ length ys → at + length xs ≤ length d → splice (splice d at xs) at ys ≡ splice d at ys
+  unfolding splice
+  splice-over d at xs ys e h =
+      let a : length (take at d) ≡ at = length-take-le at d (omega arith) in
+      let p : List A = take at d ++ xs in
+      let q : List A = drop (at + length xs) d in
+      let ep : length p ≡ at + length ys = length-append (take at d) xs ∙ (omega arith) in
+      let t : take at (p ++ q) ≡ take at d = part-before d at xs 0 at (omega arith) (omega arith) in
+      let u : drop (at + length ys) (p ++ q) ≡ drop (at + length ys) d = drop-at p q (at + length ys) ep ∙ ap (λ (n : ℕ). drop (at + n) d) e in
+      rw (t, u)
+
+  pub set-self : (l : List A) (p : ℕ) (z : A) → set l p (getD l p z) ≡ l
+  set-self [] p z = refl
+  set-self (a ∷ l) zero z = refl
+  set-self (a ∷ l) (suc p) z = ap (λ (m : List A). a ∷ m) (set-self l p z)
+
+  -- A block of w is replaced, and then n of it move to its front.
+  pub block-front : (d : List A) (a w k n : ℕ) (ys : List A) → length ys ≡ w → a + w ≤ length d → k + n ≤ w
+      → splice (splice d a ys) a (part (a + k) n (splice d a ys)) ≡ splice d a (splice ys 0 (part k n ys))
+  block-front d a w k n ys e h m =
+      let zs : List A = part k n ys in
+      let lz : length zs ≡ n = length-part k n ys (omega arith) in
+      let ls : length (splice ys 0 zs) ≡ length ys = length-splice ys 0 zs (omega arith) in
+      let ld : length (splice d a ys) ≡ length d = length-splice d a ys (omega arith) in
+      ap (λ (l : List A). splice (splice d a ys) a l) (part-in d a ys k n (omega arith) (omega arith))
+      ∙ ap (λ (x : ℕ). splice (splice d a ys) x zs) (sym (add-zero a))
+      ∙ in-block (splice d a ys) a w 0 zs (omega arith) (omega arith)
+      ∙ ap (λ (l : List A). splice (splice d a ys) a (splice l 0 zs)) (block-own d a ys w e (omega arith))
+      ∙ splice-over d a ys (splice ys 0 zs) (sym ls) (omega arith)
 
 module _ (s : RecoveredRaftStorage) (st : List ℕ) (p : ℕ) (k : Linked s st) (lt : p < s .held) where
   pub entries-length : length (entriesIn s p) ≡ 64

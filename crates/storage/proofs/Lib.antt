@@ -1,4 +1,5 @@
 pub mod At
+pub mod Finding
 pub mod Finish
 pub mod Link
 pub mod Open

@@ -55,7 +55,7 @@ module _ (s : RecoveredRaftStorage) (st : List ℕ) (p : ℕ) (i : RaftReplicaId
   length-bs = length-append (zeros 4096) bs ∙ omega (arith, length-zeros 4096, length-part (4096 * p) (4096 * (s .held - p)) st (omega (arith, k)))
 
   -- below p
-  low-head : (j : ℕ) → j < p → headAt s′ j ≡ headAt s j
+  pub low-head : (j : ℕ) → j < p → headAt s′ j ≡ headAt s j
   low-head j l = getD-before (s .heads) p hs j noHeader l (omega (arith, k))
 
   low-entries : (j : ℕ) → j < p → entriesIn s′ j ≡ entriesIn s j

@@ -1,7 +1,7 @@
 -- What the definition finds for an identity, and keeps for it, by the place where it stands.
 -- Assumes nothing.
 use mathlib.Core.Path.{_≡_, refl, sym, ap, _∙_}
-use mathlib.Core.Bool.{Bool, true, false}
+use mathlib.Core.Bool.{Bool, true, false, true≢false}
 use mathlib.Core.List.{List, [], _∷_, _++_}
 use mathlib.Core.Option.{none, some}
 use Prim.Native.Nat.{ℕ, zero, suc, _<_, _≤_}
@@ -13,7 +13,7 @@ use Rattle.definition.specs.Table.{if_then_else_}
 use Rattle.definition.specs.Records.{Identity, same, before}
 use Rattle.definition.specs.Log as D
 use Rattle.definition.specs.Recovery.{Held, held, lookup, placeOf, put, ascending, scan}
-use Rattle.definition.proofs.Order.{same-eq, before-trans, before-same}
+use Rattle.definition.proofs.Order.{same-eq, same-self, before-trans, before-same}
 use Rattle.ids.specs.declared.Lsn.{Lsn}
 use Rattle.ids.specs.declared.RaftReplicaIdentity.{RaftReplicaIdentity}
 use Rattle.ids.specs.Identity.{identityOf}
@@ -27,7 +27,7 @@ use Rattle.storage.specs.Meaning.{heldAt, logAt, meaning, Linked, Step}
 use Rattle.storage.specs.Place.{standsAt, Stands}
 use Rattle.storage.proofs.Rank.{not-same-back, else-before, ascending-at, lookup-at, place-at, put-at, put-between, lookup-none, place-none}
 use Rattle.storage.proofs.Walk.{getD-next}
-use Rattle.storage.proofs.Open.{new-head, open-means}
+use Rattle.storage.proofs.Open.{low-head, new-head, open-means}
 
 -- The walk finds the place.
 module _ (i : Identity) where
@@ -72,6 +72,26 @@ module _ (i : Identity) where
   pub stands : (s : RecoveredRaftStorage) → Stands s i (standsAt i (s .held) (s .heads))
   unfolding beforeAt
   stands s = record { low = walk-low (s .held) (s .heads); within = walk-within (s .held) (s .heads); stop = walk-stop (s .held) (s .heads) }
+
+-- There is one such place.
+pub stands-one : (s : RecoveredRaftStorage) (i : Identity) (p q : ℕ) → Stands s i p → Stands s i q → p ≡ q
+stands-one s i p q a b = go (ltb p q) refl (ltb q p) refl
+  where
+    go : (x : Bool) → ltb p q ≡ x → (y : Bool) → ltb q p ≡ y → p ≡ q
+    go true e y e′ =
+        let l : p < q = ltb-true p q e in
+        absurd (true≢false (sym (b .low p l) ∙ a .stop (omega (arith, b .within))))
+    go false e true e′ =
+        let l : q < p = ltb-true q p e′ in
+        absurd (true≢false (sym (a .low q l) ∙ b .stop (omega (arith, a .within))))
+    go false e false e′ = omega (arith, ltb-false p q e, ltb-false q p e′)
+
+not-before : (i : Identity) → before i i ≡ false
+not-before i = go (before i i) refl
+  where
+    go : (b : Bool) → before i i ≡ b → b ≡ false
+    go false e = refl
+    go true e = sym (same-self i) ∙ before-same i i e
 
 -- After a record was scanned.
 pub scanned-is : (s s′ : RecoveredRaftStorage) (st st′ : List ℕ) (l : Lsn) (r : List (Held (D.Log ℕ))) → s′ .scan ≡ scanNext (s .scan) l → meaning s′ st′ .replicas ≡ r
@@ -162,3 +182,15 @@ module _ (s : RecoveredRaftStorage) (st : List ℕ) (i : RaftReplicaIdentity) (p
       ∙ ap (λ (l : List (Held (D.Log ℕ))). set l p (held (identityOf i) v)) (open-means s st p i lk (k .within) lt)
       ∙ set-at (meaning s st .replicas) p (held (identityOf i) D.empty) (held (identityOf i) v) (omega (arith, k .within, replicas-length s st))
       ∙ sym (open-put s st (identityOf i) p k ne v)
+
+  -- There it is held then.
+  pub opened-stands : Stands (opened s p (emptyHeader i)) (identityOf i) p
+  opened-stands =
+      record {
+        low = λ j l. ap (λ (h : Header). before (idOf h) (identityOf i)) (low-head s st p i lk (k .within) lt j l) ∙ k .low j l;
+        within = omega (arith, k .within);
+        stop = λ l. ap (λ (h : Header). before (idOf h) (identityOf i)) (new-head s st p i lk (k .within) lt) ∙ not-before (identityOf i);
+      }
+
+  pub opened-same : same (identityOf i) (idOf (headAt (opened s p (emptyHeader i)) p)) ≡ true
+  opened-same = ap (λ (h : Header). same (identityOf i) (idOf h)) (new-head s st p i lk (k .within) lt) ∙ same-self (identityOf i)

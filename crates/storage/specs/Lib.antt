@@ -1,3 +1,4 @@
+pub mod Finding
 pub mod Meaning
 pub mod Model
 pub mod Place

@@ -12,6 +12,10 @@ use view::MaybeLsn;
 use view::RecoveredRaftLogEntry;
 ghost use mathlib.Core.Path.{_≡_};
 ghost use Rattle.storage.specs.Model.{noHeader, freshStorage};
+ghost use Rattle.storage.specs.Place.{standsAt};
+ghost use Rattle.storage.specs.Finding.{foundIn};
+ghost use Rattle.ids.specs.Identity.{identityOf};
+ghost use Prim.Native.Nat.{_≤_};
 ghost use Rattle.view.specs.Meaning.{noEntry};
 
 // How many records were scanned, and the last one's LSN.
@@ -86,4 +90,44 @@ impl RecoveredRaftStorage {
             scan,
         }
     }
+}
+
+// Where a replica is held, or the place that would be opened for it.
+pub enum Found {
+    At(usize),
+    Missing(usize),
+}
+
+// How many of the held replicas stand before an identity.
+fn stands_at(heads: [Header; 8], held: usize, identity: RaftReplicaIdentity) -> usize
+    requires { ⌜ held ≤ 8 ⌝ }
+    ensures { λ r. ⌜ r ≡ standsAt (identityOf identity) held heads ⌝ }
+{
+    let mut p: usize = 0;
+    while p < held {
+        let head = heads[p];
+        let own = head.identity;
+        if !ids::precedes(own, identity) {
+            return p;
+        }
+        p = p + 1;
+    }
+    p
+}
+
+// The place of an identity: the first of the held heads that it does not follow.
+pub fn find(heads: [Header; 8], held: usize, identity: RaftReplicaIdentity) -> Found
+    requires { ⌜ held ≤ 8 ⌝ }
+    ensures { λ r. ⌜ r ≡ foundIn heads held (identityOf identity) ⌝ }
+{
+    let p = stands_at(heads, held, identity);
+    if held <= p {
+        return Found::Missing(p);
+    }
+    let head = heads[p];
+    let own = head.identity;
+    if ids::same_identity(identity, own) {
+        return Found::At(p);
+    }
+    Found::Missing(p)
 }

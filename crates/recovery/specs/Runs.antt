@@ -1,0 +1,86 @@
+-- What observing answers and leaves.
+-- Assumes nothing.
+use mathlib.Core.Path.{_≡_}
+use mathlib.Core.Bool.{true, false, cond}
+use mathlib.Core.List.{List, [], _∷_}
+use mathlib.Core.Option.{none, some}
+use Prim.Native.Nat.{ℕ, _<_}
+use lib.Dec.{ltb}
+use lib.ListN.{take}
+use Rattle.definition.specs.Table.{first-of, u64-max}
+use Rattle.definition.specs.Records.{formRows}
+use Rattle.definition.specs.Log as D
+use Rattle.definition.specs.Recovery.{out, sound, observe, refusalOf, Chunk, observeUntilRefused}
+use Rattle.definition.specs.Two.{fits}
+use Rattle.ids.specs.Refusal.{numberOf}
+use Rattle.codec.specs.declared.RaftWalRecord.{RaftWalRecord}
+use Rattle.codec.specs.declared.RecordBody.{RecordBody}
+use Rattle.codec.specs.declared.RecordBody.the-variants as B
+use Rattle.codec.specs.declared.WalRecord.{WalRecord}
+use Rattle.codec.specs.Records.{kindOf, ownerOf, recordOf}
+use Rattle.replay.specs.Plan.{answerOf, indexOf}
+use Rattle.storage.specs.declared.Scan.{Scan}
+use Rattle.storage.specs.declared.RecoveredRaftStorage.{RecoveredRaftStorage}
+use Rattle.storage.specs.Model.{scanNext}
+use Rattle.storage.specs.Meaning.{recoveryOf}
+use Rattle.soundness.specs.Sound.{soundTest}
+use Rattle.recovery.specs.declared.observing.Admission.{Admission}
+use Rattle.recovery.specs.declared.observing.Admission.the-variants as A
+use Rattle.recovery.specs.declared.observing.ObservedChunk.{ObservedChunk}
+use Rattle.recovery.specs.declared.observing.Observed.{Observed}
+use Rattle.recovery.specs.Observe.{scanRows, Stepped, observedOf, Ran, runOf, lastAnswer, journalOf}
+
+-- A replica's record that is refused for its form.
+pub record Malformed (body : RecordBody) (lent : List ℕ) (n : ℕ) : Type 0 where
+  pub kind : RaftWalRecord
+  pub is : body ≡ B.Raft kind
+  pub row : first-of (formRows (ownerOf kind) (kindOf kind lent)) ≡ some n
+
+-- What a record is before its replica is looked for: refused by 1 or 2; of no Raft kind; refused for its form; its replica's.
+abbrev pub Admitted : Admission → Scan → WalRecord → List ℕ → Type 0
+Admitted (A.Refused why) n r lent = first-of (scanRows n (r .lsn)) ≡ some (numberOf why)
+Admitted (A.Counted next) n r lent = (first-of (scanRows n (r .lsn)) ≡ none) × (next ≡ scanNext n (r .lsn)) × (r .body ≡ B.Foreign)
+Admitted (A.Malformed next why) n r lent =
+    (first-of (scanRows n (r .lsn)) ≡ none) × (next ≡ scanNext n (r .lsn)) × Malformed (r .body) lent (numberOf why)
+Admitted (A.Raft next k) n r lent =
+    (first-of (scanRows n (r .lsn)) ≡ none) × (next ≡ scanNext n (r .lsn)) × (r .body ≡ B.Raft k)
+    × (first-of (formRows (ownerOf k) (kindOf k lent)) ≡ none)
+
+-- The index that a record looks at.
+abbrev pub indexIn : RecordBody → ℕ
+indexIn B.Foreign = 0
+indexIn (B.Raft k) = indexOf k
+
+-- A count past 64 reads as 64.
+abbrev pub atMost : ℕ → ℕ
+atMost n = cond (ltb n 64) n 64
+
+-- What the code's answers are, with the store that they leave.
+abbrev pub ranOf : ObservedChunk → List ℕ → Ran
+ranOf d st = record { taken = d .taken; answer = answerOf (d .answer); state = d .state; store = st }
+
+abbrev pub chunkOf : ObservedChunk → List ℕ → Chunk
+chunkOf d st = record { taken = d .taken; ended = refusalOf (answerOf (d .answer)); left = recoveryOf (d .state) st }
+
+abbrev pub stepOf : Observed → List ℕ → Stepped
+stepOf d st = record { answer = answerOf (d .answer); state = d .state; store = st }
+
+-- A chunk: the first `count` of 64 records, until the first refusal.
+pub record Runs (s : RecoveredRaftStorage) (st : List ℕ) (rs : List WalRecord) (lent : List ℕ) (d : ObservedChunk) (st′ : List ℕ) : Type 0 where
+  pub model : ranOf d st′ ≡ runOf s st rs lent
+  -- where state and store are sound: the definition's chunk, and its last answer
+  pub means : soundTest s st ≡ true → observeUntilRefused (recoveryOf s st) (journalOf rs lent) ≡ chunkOf d st′
+  pub last : soundTest s st ≡ true → lastAnswer D.counted (recoveryOf s st) (journalOf rs lent) ≡ answerOf (d .answer)
+  -- and sound again, unless the count of scanned records is at its end
+  pub stays : soundTest s st ≡ true → d .state .scan .«scanned_records» < u64-max → soundTest (d .state) st′ ≡ true
+  -- where they are not: refused by 1, and nothing changed; what means no sound state is among these
+  pub refused : soundTest s st ≡ false → ranOf d st′ ≡ record { taken = 0; answer = D.refused 1; state = s; store = st }
+  pub unsound : sound (recoveryOf s st) ≡ false → soundTest s st ≡ false
+
+-- One record.
+pub record Observing (s : RecoveredRaftStorage) (st : List ℕ) (r : WalRecord) (lent : List ℕ) (d : Observed) (st′ : List ℕ) : Type 0 where
+  pub model : stepOf d st′ ≡ observedOf s st r lent
+  pub means : soundTest s st ≡ true → observe (recoveryOf s st) (recordOf r lent) ≡ out (answerOf (d .answer)) (recoveryOf (d .state) st′)
+  pub stays : soundTest s st ≡ true → d .state .scan .«scanned_records» < u64-max → soundTest (d .state) st′ ≡ true
+  pub refused : soundTest s st ≡ false → stepOf d st′ ≡ record { answer = D.refused 1; state = s; store = st }
+  pub unsound : sound (recoveryOf s st) ≡ false → observe (recoveryOf s st) (recordOf r lent) ≡ out (answerOf (d .answer)) (recoveryOf (d .state) st′)

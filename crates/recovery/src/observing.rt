@@ -1,0 +1,237 @@
+// Observing: records of a journal, one or a chunk of them, each decided on small values and written in place.
+use crate::placing;
+use codec::RaftWalRecord;
+use codec::RecordBody;
+use codec::WalRecord;
+use ids::Checked;
+use ids::Lsn;
+use ids::Refusal;
+use replay::Observation;
+use storage::Found;
+use storage::RecoveredRaftStorage;
+use storage::Scan;
+use view::MaybeLsn;
+ghost use mathlib.Core.Path.{_≡_};
+ghost use Prim.Native.Nat.{_<_};
+ghost use lib.ListN.{take};
+ghost use Rattle.definition.specs.Table.{first-of};
+ghost use Rattle.ids.specs.Refusal.{checkedOf};
+ghost use Rattle.storage.specs.Model.{scanNext};
+ghost use Rattle.recovery.specs.Observe.{scanRows};
+ghost use Rattle.recovery.specs.Runs.{Admitted, indexIn, atMost, Runs, Observing};
+
+// One more record was scanned.
+fn scan_next(scan: Scan, lsn: Lsn) -> Scan
+    requires { ⌜ scan .«scanned_records» < 18446744073709551615 ⌝ }
+    ensures { λ r. ⌜ r ≡ scanNext scan lsn ⌝ }
+{
+    Scan {
+        scanned_records: scan.scanned_records + 1,
+        last_scanned_lsn: MaybeLsn::Some(lsn),
+    }
+}
+
+// Whether a record may be scanned (1, where the count is at its end; 2).
+fn check_scan(scan: Scan, lsn: Lsn) -> Checked
+    ensures { λ r. ⌜ checkedOf r ≡ first-of (scanRows scan lsn) ⌝ }
+{
+    if u64::MAX <= scan.scanned_records {
+        return Checked::Refused(Refusal::Unsound);
+    }
+    let last = scan.last_scanned_lsn;
+    let MaybeLsn::Some(x) = last else {
+        return Checked::Ok;
+    };
+    if lsn.0 <= x.0 {
+        return Checked::Refused(Refusal::NonIncreasingWalLsn);
+    }
+    Checked::Ok
+}
+
+// What a record is before its replica is looked for, with the scan that counts it.
+pub enum Admission {
+    Refused(Refusal),
+    Counted(Scan),
+    Malformed(Scan, Refusal),
+    Raft(Scan, RaftWalRecord),
+}
+
+// A record of no Raft kind is counted and goes no further; a replica's is refused for its form, or goes to its replica.
+fn admit(scan: Scan, r: WalRecord, lent: &[u8]) -> Admission
+    ensures { λ a. ⌜ Admitted a scan r (now (lent .entry)) ⌝ }
+{
+    let lsn = r.lsn;
+    if let Checked::Refused(why) = check_scan(scan, lsn) {
+        return Admission::Refused(why);
+    }
+    let next = scan_next(scan, lsn);
+    let RecordBody::Raft(kind) = codec::raft_kind(r) else {
+        return Admission::Counted(next);
+    };
+    if let Checked::Refused(why) = codec::validate_form(kind, lent) {
+        return Admission::Malformed(next, why);
+    }
+    Admission::Raft(next, kind)
+}
+
+// The index that a record looks at.
+fn index_of(r: WalRecord) -> u64
+    ensures { λ x. ⌜ x ≡ indexIn (r .body) ⌝ }
+{
+    let RecordBody::Raft(kind) = codec::raft_kind(r) else {
+        return 0;
+    };
+    replay::index_of(kind)
+}
+
+// How many records of a chunk were taken, the answer to the last one that was observed (a refusal where one ended it), and the
+// state then.
+pub struct ObservedChunk {
+    pub taken: usize,
+    pub answer: Observation,
+    pub state: RecoveredRaftStorage,
+}
+
+// The answer, and the state after it.
+pub struct Observed {
+    pub answer: Observation,
+    pub state: RecoveredRaftStorage,
+}
+
+// A count past 64 reads as 64.
+fn at_most(count: usize) -> usize
+    ensures { λ r. ⌜ r ≡ atMost count ⌝ }
+{
+    if count < 64 {
+        return count;
+    }
+    64
+}
+
+// The first `count` records, until the first refusal. Soundness is tested once: every step keeps it, but for the count of scanned
+// records, which is tested before each. A replica that is not held has its place opened, and its record is looked at again.
+pub fn observe_records(
+    state: RecoveredRaftStorage,
+    records: [WalRecord; 64],
+    count: usize,
+    lent: &[u8],
+    store: &mut [u8],
+) -> ObservedChunk
+    ensures { λ d. ⌜ Runs state (now (store .entry)) (take (atMost count) records) (now (lent .entry)) d (now (store .exit)) ⌝ }
+{
+    if !soundness::is_sound(state, &store[..]) {
+        return ObservedChunk {
+            taken: 0,
+            answer: Observation::Refused(Refusal::Unsound),
+            state: state,
+        };
+    }
+    let n = at_most(count);
+    let mut t = state;
+    let mut answer = Observation::Counted;
+    let mut i: usize = 0;
+    while i < n {
+        let r = records[i];
+        let lsn = r.lsn;
+        let index = index_of(r);
+        let scan = t.scan;
+        match admit(scan, r, lent) {
+            Admission::Refused(why) => {
+                return ObservedChunk {
+                    taken: i,
+                    answer: Observation::Refused(why),
+                    state: t,
+                };
+            }
+            Admission::Counted(next) => {
+                t.scan = next;
+                answer = Observation::Counted;
+                i = i + 1;
+            }
+            Admission::Malformed(next, why) => {
+                t.scan = next;
+                return ObservedChunk {
+                    taken: i,
+                    answer: Observation::Refused(why),
+                    state: t,
+                };
+            }
+            Admission::Raft(next, kind) => {
+                let identity = replay::owner(kind);
+                let heads = t.heads;
+                match storage::find(heads, t.held, identity) {
+                    Found::Missing(p) => {
+                        if 8 <= t.held {
+                            t.scan = next;
+                            return ObservedChunk {
+                                taken: i,
+                                answer: Observation::Refused(Refusal::TooManyReplicas),
+                                state: t,
+                            };
+                        }
+                        t = placing::open_place(t, store, p, identity);
+                    }
+                    Found::At(p) => {
+                        let head = t.heads[p];
+                        let q = 64 * p + replay::look(head, index);
+                        let before = 64 * p + replay::look_before(head, index);
+                        let e = t.entries[q];
+                        let b = t.entries[before];
+                        let at = 4096 * p;
+                        let end = at + 4096;
+                        let change = replay::settle(
+                            head,
+                            e,
+                            b,
+                            kind,
+                            lsn,
+                            &mut store[at..end],
+                            lent,
+                        );
+                        let after = change.head;
+                        let entry = change.entry;
+                        answer = change.answer;
+                        t.heads[p] = after;
+                        t.entries[q] = entry;
+                        t.scan = next;
+                        if let Observation::Refused(why) = answer {
+                            return ObservedChunk {
+                                taken: i,
+                                answer: Observation::Refused(why),
+                                state: t,
+                            };
+                        }
+                        i = i + 1;
+                        if 0 < change.dropped {
+                            let k = change.dropped;
+                            t = placing::entries_down(t, 64 * p, 64 * p + k, after.len);
+                        }
+                    }
+                }
+            }
+        }
+    }
+    ObservedChunk {
+        taken: i,
+        answer: answer,
+        state: t,
+    }
+}
+
+// One record.
+pub fn observe_record(
+    state: RecoveredRaftStorage,
+    r: WalRecord,
+    lent: &[u8],
+    store: &mut [u8],
+) -> Observed
+    ensures { λ d. ⌜ Observing state (now (store .entry)) r (now (lent .entry)) d (now (store .exit)) ⌝ }
+{
+    let chunk = observe_records(state, [r; 64], 1, lent, store);
+    let answer = chunk.answer;
+    let next = chunk.state;
+    Observed {
+        answer: answer,
+        state: next,
+    }
+}

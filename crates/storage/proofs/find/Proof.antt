@@ -1,0 +1,51 @@
+-- `find` meets its contract.
+-- Assumes nothing.
+use mathlib.Core.Path.{sym, _∙_}
+use Rattle.storage.proofs.Finding.{is-past, is-held, is-missing}
+use borrow.Author.Needs.{needs}
+use Rattle.storage.proofs.find.Statement.{statement}
+use Rattle.storage.proofs.find.Tie as tie
+use Rattle.storage.proofs.find.Reads as reads
+use Rattle.storage.proofs.find.Lts as lts
+use Rattle.ids.proofs.same_identity.Reads as same-identity-reads
+use Rattle.storage.proofs.stands_at.Reads as stands-at-reads
+
+-- src/lib.rt:51:9
+stands-at-requires : tie.Need-stands-at-requires
+stands-at-requires c κs = search needs
+
+-- src/lib.rt:53:9
+returns : tie.Need-returns
+returns c = is-past _ _ _ _ (c .before .stands-at .ensures) (search needs)
+
+-- src/lib.rt:55:16
+mul-head : tie.Need-mul-head
+mul-head c = search needs
+
+-- src/lib.rt:55:16
+array-copy-out-head : tie.Need-array-copy-out-head
+array-copy-out-head c = search needs
+
+-- src/lib.rt:57:8
+same-identity-requires : tie.Need-same-identity-requires
+same-identity-requires c κs = search needs
+
+-- src/lib.rt:58:9
+returns-2 : tie.Need-returns-2
+returns-2 c = is-held _ _ _ _ (c .before .before .before .before .before .stands-at .ensures) (search needs) (sym (c .before .same-identity .ensures) ∙ c .if2 .taken)
+
+-- src/lib.rt:47:1
+returns-3 : tie.Need-returns-3
+returns-3 c = is-missing _ _ _ _ (c .before .before .before .before .before .stands-at .ensures) (search needs) (sym (c .before .same-identity .ensures) ∙ c .if2 .left)
+
+pub find-spec : {M : Type 1} → statement M
+find-spec =
+    tie.close
+    (tie.spec
+    stands-at-requires
+    returns
+    mul-head
+    array-copy-out-head
+    same-identity-requires
+    returns-2
+    returns-3)
