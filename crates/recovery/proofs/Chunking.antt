@@ -13,7 +13,7 @@ use lib.Seq.{getD-take, length-take-le}
 use Rattle.definition.specs.Table.{first-of, u64-max}
 use Rattle.definition.specs.Records.{formRows}
 use Rattle.definition.specs.Log as D
-use Rattle.definition.specs.Recovery.{Out, out, Recovery, observe, refusalOf}
+use Rattle.definition.specs.Recovery.{out, observe, refusalOf}
 use Rattle.codec.specs.declared.RaftWalRecord.{RaftWalRecord}
 use Rattle.codec.specs.declared.RecordBody.the-variants as B
 use Rattle.codec.specs.declared.WalRecord.{WalRecord}

@@ -3,6 +3,7 @@ pub mod Finishes
 pub mod Moves
 pub mod Observe
 pub mod One
+pub mod Program
 pub mod Ready
 pub mod Route
 pub mod Routed

@@ -1,16 +1,13 @@
 -- Turns of the loops that move headers and entries of a state that they own.
 -- Assumes nothing.
-use mathlib.Core.Path.{_≡_, refl, sym, ap, _∙_}
+use mathlib.Core.Path.{_≡_, sym, ap, _∙_}
 use mathlib.Core.List.{List}
 use Prim.Native.Nat.{ℕ, _+_, _-_, _<_, _≤_}
-use native.Mathlib.Omega.{arith}
 use native.Mathlib.Nat.{sub-self, add-zero, sub-zero}
 use lib.ListN.{length, getD, set}
 use Rattle.store.specs.Splice.{part, splice}
 use Rattle.store.proofs.Part.{splice-none}
 use Rattle.store.proofs.Run.{turn-up, turn-down}
-use Rattle.view.specs.declared.Header.{Header}
-use Rattle.view.specs.declared.RecoveredRaftLogEntry.{RecoveredRaftLogEntry}
 use Rattle.view.specs.Meaning.{noEntry}
 use Rattle.storage.specs.declared.RecoveredRaftStorage.{RecoveredRaftStorage}
 use Rattle.storage.specs.Model.{noHeader}

@@ -7,7 +7,7 @@ use mathlib.Core.Option.{Option, none, some}
 use Prim.Native.Nat.{ℕ}
 use Rattle.definition.specs.Records.{Record}
 use Rattle.definition.specs.Log as D
-use Rattle.definition.specs.Recovery.{Out, out, Recovery, observe, refusalOf, Chunk, observeUntilRefused, sound}
+use Rattle.definition.specs.Recovery.{Out, out, Recovery, observe, refusalOf, Chunk, observeUntilRefused}
 use Rattle.codec.specs.declared.WalRecord.{WalRecord}
 use Rattle.codec.specs.Records.{recordOf}
 use Rattle.replay.specs.Plan.{answerOf}
@@ -16,8 +16,8 @@ use Rattle.storage.specs.Meaning.{recoveryOf}
 use Rattle.soundness.specs.Sound.{soundTest}
 use Rattle.recovery.specs.declared.observing.ObservedChunk.{ObservedChunk}
 use Rattle.recovery.specs.declared.observing.Observed.{Observed}
-use Rattle.recovery.specs.Observe.{Stepped, stepped, observedOf, Ran, ranBy, ranFrom, runOf, lastBy, lastAnswer, journalOf}
-use Rattle.recovery.specs.Runs.{ranOf, chunkOf, stepOf, Runs, Observing}
+use Rattle.recovery.specs.Observe.{Stepped, stepped, observedOf, Ran, ranBy, ranFrom, lastBy, lastAnswer}
+use Rattle.recovery.specs.Runs.{ranOf, stepOf, Runs, Observing}
 use Rattle.recovery.proofs.Observe.{unsound-observed}
 
 -- What is left, without the number taken.

@@ -2,7 +2,7 @@
 -- Assumes nothing.
 use mathlib.Core.Path.{_≡_, refl, sym, ap, _∙_}
 use mathlib.Core.Bool.{true, false, true≢false}
-use mathlib.Core.List.{List, [], _∷_, map}
+use mathlib.Core.List.{List, [], _∷_}
 use mathlib.Core.Option.{Option, none, some}
 use Prim.Native.Nat.{ℕ, suc, _+_, _<_, _≤_}
 use native.Mathlib.Omega.{arith}
@@ -15,13 +15,12 @@ use Rattle.definition.specs.Log as D
 use Rattle.definition.specs.Recovery.{Out, out, Recovery, observe, refusalOf, Chunk, oneMore, observeUntilRefused, sound}
 use Rattle.codec.specs.declared.WalRecord.{WalRecord}
 use Rattle.codec.specs.Records.{recordOf}
-use Rattle.replay.specs.Plan.{answerOf}
 use Rattle.storage.specs.declared.RecoveredRaftStorage.{RecoveredRaftStorage}
 use Rattle.storage.specs.Meaning.{recoveryOf}
 use Rattle.soundness.specs.Sound.{soundTest}
 use Rattle.recovery.specs.declared.observing.ObservedChunk.{ObservedChunk}
-use Rattle.recovery.specs.Observe.{Stepped, stepped, Ran, ranBy, ranFrom, runOf, lastBy, lastAnswer, journalOf}
-use Rattle.recovery.specs.Runs.{ranOf, chunkOf, Runs}
+use Rattle.recovery.specs.Observe.{Stepped, stepped, Ran, ranBy, ranFrom, lastBy, lastAnswer, journalOf}
+use Rattle.recovery.specs.Runs.{ranOf, Runs}
 use Rattle.soundness.proofs.Sound.{test-sound}
 use Rattle.recovery.proofs.Ready.{Ready, ready-test}
 

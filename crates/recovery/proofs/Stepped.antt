@@ -10,7 +10,7 @@ use native.Mathlib.Omega.{arith}
 use borrow.Author.Tests.{ltb-true, ltb-false, leb-true, leb-false, le-leb, lt-leb}
 use lib.Dec.{ltb, leb}
 use lib.ListN.{length, getD, set, length-set}
-use Rattle.definition.specs.Table.{_<?_, _≤?_, if_then_else_, _when_, first-of, u64-max}
+use Rattle.definition.specs.Table.{_≤?_, _when_, first-of, u64-max}
 use Rattle.definition.specs.Records.{Identity, Kind, formRows, Content, contentOf, content, Record}
 use Rattle.definition.specs.Log as D
 use Rattle.definition.specs.Recovery.{held, Out, out, soundState, Recovery, soundStore, sound, observe}
@@ -19,7 +19,7 @@ use Rattle.definition.proofs.Sound.{over-test}
 use Rattle.ids.specs.declared.Lsn.{Lsn}
 use Rattle.ids.specs.Identity.{identityOf}
 use Rattle.store.specs.Splice.{part, splice}
-use Rattle.store.proofs.Part.{getD-part, set-block, splice-self}
+use Rattle.store.proofs.Part.{getD-part, set-block, splice-self, set-self}
 use Rattle.codec.specs.declared.RaftLogEntryRecord.{RaftLogEntryRecord}
 use Rattle.codec.specs.declared.RaftWalRecord.{RaftWalRecord}
 use Rattle.codec.specs.declared.RaftWalRecord.the-variants as W
@@ -29,7 +29,7 @@ use Rattle.codec.specs.declared.WalRecord.{WalRecord}
 use Rattle.codec.specs.Records.{kindOf, ownerOf, bodyOf, recordOf}
 use Rattle.view.specs.declared.Header.{Header}
 use Rattle.view.specs.declared.RecoveredRaftLogEntry.{RecoveredRaftLogEntry}
-use Rattle.view.specs.Meaning.{noEntry, baseOf, idOf}
+use Rattle.view.specs.Meaning.{noEntry, idOf}
 use Rattle.view.specs.Model.{emptyHeader, withHardState, withPointer, coveredBy, droppedEntries, droppedBytes}
 use Rattle.view.specs.Decisions.{entryAnswer, hardStateRowsOf, pointerRowsOf}
 use Rattle.view.specs.Readers.{placeOf}
@@ -37,12 +37,13 @@ use Rattle.replay.specs.Plan.{identityIn, indexOf, lookOf, existingIn, priorIn,
 use Rattle.replay.specs.Settled.{Looks, Settled}
 use Rattle.replay.specs.Settled as R
 use Rattle.replay.proofs.Settled.{settle-means}
+use Rattle.replay.proofs.Written.{look-below}
 use Rattle.storage.specs.declared.Scan.{Scan}
 use Rattle.storage.specs.declared.RecoveredRaftStorage.{RecoveredRaftStorage}
 use Rattle.storage.specs.Model.{noHeader, headAt, entriesIn, bytesIn, scanNext, scannedOnly, withHead, changed, opened, openedStore}
 use Rattle.storage.specs.Meaning.{logAt, meaning, recoveryOf, Linked, Observes}
 use Rattle.storage.specs.Place.{standsAt}
-use Rattle.storage.proofs.At.{set-self, block-front, entries-length, bytes-length, step-at}
+use Rattle.storage.proofs.At.{block-front, entries-length, bytes-length, step-at}
 use Rattle.storage.proofs.Open.{open-linked}
 use Rattle.storage.proofs.Place.{stands, stands-one, opened-stands, opened-same}
 use Rattle.storage.specs.declared.Found.{Found}
@@ -85,14 +86,6 @@ plan-drops h e b (W.SnapshotPointer p) l cs lent =
     let n : ℕ = coveredBy h (p .«last_included_index») in
     let d : Plan = record { answer = D.kept; head = withPointer h p l n; entry = e; dropped = n; bytes = droppedBytes cs n } in
     unless-drops (first-of (pointerRowsOf (identityOf (p .identity)) h p (heldTermIn (placeOf h (p .«last_included_index»)) (e .term)))) h e cs d (λ x. (omega arith, refl))
-
--- The place that is looked at is one of 64.
-pub look-below : (h : Header) (x : ℕ) → lookOf h x < 64
-look-below h x = go (x - baseOf h <? 64) refl
-  where
-    go : (b : Bool) → (x - baseOf h <? 64) ≡ b → (if b then x - baseOf h else 0) < 64
-    go true e = ltb-true (x - baseOf h) 64 e
-    go false e = omega arith
 
 -- From one block to the state.
 module _ (s : RecoveredRaftStorage) (st : List ℕ) (p : ℕ) (k : Linked s st) (lt : p < s .held) where

@@ -1,7 +1,7 @@
 -- A turn of observing: what the code reads and writes at a replica's place is the model's.
 -- Assumes nothing.
 use mathlib.Core.Path.{_≡_, refl, sym, ap, subst, _∙_}
-use mathlib.Core.Bool.{Bool, true, false, cond, true≢false}
+use mathlib.Core.Bool.{Bool, true, false, true≢false}
 use mathlib.Core.Option.{Option, none, some}
 use Rattle.definition.specs.Records.{Identity, unfit, formRows}
 use Rattle.definition.specs.Log as D

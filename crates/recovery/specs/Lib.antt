@@ -1,5 +1,6 @@
 pub mod Finishes
 pub mod Moves
 pub mod Observe
+pub mod Program
 pub mod Runs
 pub mod Settle

@@ -1,16 +1,15 @@
 -- The model of observing: one record, and a chunk of them. What is not said stays.
 -- Assumes nothing.
-use mathlib.Core.Path.{_≡_}
-use mathlib.Core.Bool.{Bool, true, false, not, cond}
+use mathlib.Core.Bool.{not, cond}
 use mathlib.Core.List.{List, [], _∷_, map}
 use mathlib.Core.Option.{Option, none, some}
 use Prim.Native.Nat.{ℕ, suc, _+_, _-_, _*_}
 use lib.Dec.{ltb, leb}
-use lib.ListN.{getD, set, take}
-use Rattle.definition.specs.Table.{_<?_, _≤?_, Row, _when_, first-of, ifSome, u64-max}
+use lib.ListN.{getD, set}
+use Rattle.definition.specs.Table.{_≤?_, Row, _when_, first-of, ifSome, u64-max}
 use Rattle.definition.specs.Records.{Record, formRows}
 use Rattle.definition.specs.Log as D
-use Rattle.definition.specs.Recovery.{out, sound, observe, refusalOf, Recovery, observeUntilRefused}
+use Rattle.definition.specs.Recovery.{sound, observe, refusalOf, Recovery}
 use Rattle.ids.specs.declared.Lsn.{Lsn}
 use Rattle.store.specs.Splice.{part, splice}
 use Rattle.codec.specs.declared.RaftWalRecord.{RaftWalRecord}
@@ -21,11 +20,10 @@ use Rattle.codec.specs.Records.{kindOf, ownerOf, recordOf}
 use Rattle.view.specs.Meaning.{lsnOf, noEntry}
 use Rattle.view.specs.declared.RecoveredRaftLogEntry.{RecoveredRaftLogEntry}
 use Rattle.view.specs.Model.{emptyHeader}
-use Rattle.replay.specs.Plan.{answerOf, identityIn, indexOf, lookOf, Plan, planOf}
+use Rattle.replay.specs.Plan.{identityIn, indexOf, lookOf, Plan, planOf}
 use Rattle.storage.specs.declared.Scan.{Scan}
 use Rattle.storage.specs.declared.RecoveredRaftStorage.{RecoveredRaftStorage}
 use Rattle.storage.specs.Model.{headAt, bytesIn, scanNext, scannedOnly, withHead, changedStore, opened, openedStore}
-use Rattle.storage.specs.Meaning.{recoveryOf}
 use Rattle.soundness.specs.Sound.{soundTest}
 use Rattle.storage.specs.declared.Found.{Found}
 use Rattle.storage.specs.declared.Found.the-variants as F

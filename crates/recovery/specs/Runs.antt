@@ -2,16 +2,14 @@
 -- Assumes nothing.
 use mathlib.Core.Path.{_≡_}
 use mathlib.Core.Bool.{true, false, cond}
-use mathlib.Core.List.{List, [], _∷_}
+use mathlib.Core.List.{List}
 use mathlib.Core.Option.{none, some}
 use Prim.Native.Nat.{ℕ, _<_}
 use lib.Dec.{ltb}
-use lib.ListN.{take}
 use Rattle.definition.specs.Table.{first-of, u64-max}
 use Rattle.definition.specs.Records.{formRows}
 use Rattle.definition.specs.Log as D
 use Rattle.definition.specs.Recovery.{out, sound, observe, refusalOf, Chunk, observeUntilRefused}
-use Rattle.definition.specs.Two.{fits}
 use Rattle.ids.specs.Refusal.{numberOf}
 use Rattle.codec.specs.declared.RaftWalRecord.{RaftWalRecord}
 use Rattle.codec.specs.declared.RecordBody.{RecordBody}

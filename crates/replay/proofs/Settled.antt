@@ -3,9 +3,9 @@
 use mathlib.Core.Path.{_≡_, refl, sym, ap, _∙_}
 use mathlib.Core.Bool.{Bool, true, false, true≢false}
 use mathlib.Core.Logic.{inl, inr}
-use mathlib.Core.List.{List, [], _∷_}
+use mathlib.Core.List.{List, _∷_}
 use mathlib.Core.Option.{Option, none, some, Option·getD, Option·map}
-use Prim.Native.Nat.{ℕ, zero, suc, _+_, _-_, _<_, _≤_}
+use Prim.Native.Nat.{ℕ, zero, _+_, _-_, _<_, _≤_}
 use native.Mathlib.Omega.{arith}
 use native.Mathlib.Nat.{sub-zero}
 use borrow.Author.Tests.{eqb-true, leb-true, leb-false, lt-ltb, not-false}
@@ -18,7 +18,7 @@ use Rattle.definition.specs.Two.{fitsKind}
 use Rattle.definition.proofs.Laws.{Clear, clear}
 use Rattle.ids.specs.declared.Lsn.{Lsn}
 use Rattle.ids.specs.Identity.{identityOf}
-use Rattle.store.proofs.Part.{splice-self}
+use Rattle.store.proofs.Part.{splice-self, set-self}
 use Rattle.codec.specs.declared.HardState.{HardState}
 use Rattle.codec.specs.declared.RaftLogEntryRecord.{RaftLogEntryRecord}
 use Rattle.codec.specs.declared.RaftSnapshotPointerRecord.{RaftSnapshotPointerRecord}
@@ -50,12 +50,7 @@ look-held h x q l e =
     let p : x - baseOf h ≡ q = omega (arith, k) in
     rw (lt-ltb (x - baseOf h) 64 (omega (arith, k))) p
 
--- What is written where it stood is the same, and where nothing is dropped nothing moves.
-pub set-self : {A : Type 0} (l : List A) (i : ℕ) (z : A) → set l i (getD l i z) ≡ l
-set-self [] i z = refl
-set-self (x ∷ l) zero z = refl
-set-self {A} (x ∷ l) (suc i) z = ap (λ (r : List A). x ∷ r) (set-self l i z)
-
+-- Where nothing is dropped nothing moves.
 dropped-none : (es : List RecoveredRaftLogEntry) (n : ℕ) → n ≤ length es → droppedEntries es 0 n ≡ es
 dropped-none es n h = rw (sub-zero n) (splice-self es 0 n (omega arith))
 

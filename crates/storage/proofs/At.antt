@@ -3,7 +3,7 @@
 use mathlib.Core.Path.{_≡_, refl, sym, ap, _∙_}
 use mathlib.Core.Bool.{Bool, true, false}
 use mathlib.Core.Logic.{⊎-elim, _⊎_, inl, inr}
-use mathlib.Core.List.{List, [], _∷_, _++_}
+use mathlib.Core.List.{List, _++_}
 use Prim.Native.Nat.{ℕ, zero, suc, _+_, _*_, _<_, _≤_}
 use native.Mathlib.Nat.{add-zero, mul-le-mul-left}
 use native.Mathlib.Omega.{arith}
@@ -55,11 +55,6 @@ module _ {A : Type 0} where
       let t : take at (p ++ q) ≡ take at d = part-before d at xs 0 at (omega arith) (omega arith) in
       let u : drop (at + length ys) (p ++ q) ≡ drop (at + length ys) d = drop-at p q (at + length ys) ep ∙ ap (λ (n : ℕ). drop (at + n) d) e in
       rw (t, u)
-
-  pub set-self : (l : List A) (p : ℕ) (z : A) → set l p (getD l p z) ≡ l
-  set-self [] p z = refl
-  set-self (a ∷ l) zero z = refl
-  set-self (a ∷ l) (suc p) z = ap (λ (m : List A). a ∷ m) (set-self l p z)
 
   -- A block of w is replaced, and then n of it move to its front.
   pub block-front : (d : List A) (a w k n : ℕ) (ys : List A) → length ys ≡ w → a + w ≤ length d → k + n ≤ w

@@ -1,6 +1,6 @@
 -- Finding a replica's place: the turns of the walk, and what the answer says of the definition's replicas.
 -- Assumes nothing.
-use mathlib.Core.Path.{_≡_, refl, ap, _∙_}
+use mathlib.Core.Path.{_≡_, refl}
 use mathlib.Core.Bool.{Bool, true, false, cond}
 use mathlib.Core.List.{List}
 use mathlib.Core.Option.{none, some}

@@ -8,13 +8,13 @@ use lib.Dec.{ltb}
 use lib.ListN.{getD, set, replicate}
 use Rattle.ids.specs.declared.Lsn.{Lsn}
 use Rattle.store.specs.Splice.{part, splice}
-use Rattle.store.specs.Zeros.{zeros, padded}
+use Rattle.store.specs.Zeros.{zeros}
 use Rattle.view.specs.declared.MaybeLsn.the-variants as L
 use Rattle.view.specs.declared.Header.{Header}
 use Rattle.view.specs.declared.RecoveredRaftLogEntry.{RecoveredRaftLogEntry}
 use Rattle.view.specs.Tab.{tab}
 use Rattle.view.specs.Meaning.{noEntry}
-use Rattle.view.specs.Model.{emptyHeader, withEntry, maximumTerm, finished}
+use Rattle.view.specs.Model.{emptyHeader, maximumTerm, finished}
 use Rattle.storage.specs.declared.Scan.{Scan}
 use Rattle.storage.specs.declared.RecoveredRaftStorage.{RecoveredRaftStorage}
 
@@ -64,30 +64,6 @@ headed s p h n = withHead s p h (s .entries) n
 -- The scan only.
 abbrev pub scannedOnly : RecoveredRaftStorage → Scan → RecoveredRaftStorage
 scannedOnly s n = record { heads = s .heads; entries = s .entries; held = s .held; scan = n }
-
--- An entry at place q, of which `len` are held then: q + 1 after an append or a cut, as many as before where it is renewed.
-abbrev pub entered : RecoveredRaftStorage → ℕ → ℕ → ℕ → RecoveredRaftLogEntry → Scan → RecoveredRaftStorage
-entered s p q len e n = withHead s p (withEntry (headAt s p) len (e .lsn)) (set (s .entries) (64 * p + q) e) n
-
-abbrev pub placed : RecoveredRaftStorage → ℕ → ℕ → RecoveredRaftLogEntry → Scan → RecoveredRaftStorage
-placed s p q e n = entered s p q (q + 1) e n
-
-abbrev pub renewed : RecoveredRaftStorage → ℕ → ℕ → RecoveredRaftLogEntry → Scan → RecoveredRaftStorage
-renewed s p q e n = entered s p q (headAt s p .len) e n
-
--- Its cell c, and zeros in the m cells after it: none for an append, the rest of the block for a cut.
-abbrev pub placedStore : List ℕ → ℕ → ℕ → List ℕ → ℕ → List ℕ
-placedStore st p q c m = splice st (4096 * p + 64 * q) (c ++ zeros (64 * m))
-
-abbrev pub appendedStore : List ℕ → ℕ → ℕ → List ℕ → List ℕ
-appendedStore st p q c = splice st (4096 * p + 64 * q) c
-
--- The first k entries and cells go, the others move down; h is the header after it.
-abbrev pub dropped : RecoveredRaftStorage → ℕ → ℕ → Header → Scan → RecoveredRaftStorage
-dropped s p k h n = withHead s p h (splice (s .entries) (64 * p) (part (64 * p + k) (headAt s p .len - k) (s .entries))) n
-
-abbrev pub droppedStore : List ℕ → ℕ → ℕ → List ℕ
-droppedStore st p k = splice st (4096 * p) (padded (part (4096 * p + 64 * k) (4096 - 64 * k) st) (64 * k))
 
 -- A place is opened at p for header h: the heads, entries and blocks of the replicas from p on move up.
 abbrev pub opened : RecoveredRaftStorage → ℕ → Header → RecoveredRaftStorage

@@ -1,5 +1,6 @@
 pub mod Accepted
 pub mod Block
+pub mod Cells
 pub mod Dropped
 pub mod Head
 pub mod Kept

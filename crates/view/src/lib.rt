@@ -17,14 +17,16 @@ use ids::ReplicaId;
 ghost use mathlib.Core.Path.{_≡_};
 ghost use mathlib.Core.Bool.{_&&_};
 ghost use mathlib.Core.List.{List};
-ghost use Prim.Native.Nat.{ℕ, _-_, _≤_, max};
+ghost use Prim.Native.Nat.{ℕ, _+_, _-_, _*_, _≤_, max};
+ghost use lib.ListN.{length};
 ghost use Rattle.definition.specs.Table.{_=?_, _≠?_, _<?_, first-of};
 ghost use Rattle.definition.specs.Records.{Identity, configuration, changeNumber, samePayload};
 ghost use Rattle.definition.specs.Log.{appended};
+ghost use Rattle.definition.specs.Recovery.{commandBytes};
 ghost use Rattle.ids.specs.Refusal.{checkedOf};
 ghost use Rattle.store.specs.Splice.{part, splice};
 ghost use Rattle.codec.specs.Records.{changeOf, payloadOf};
-ghost use Rattle.view.specs.Meaning.{payloadIn, afterOf, baseOf};
+ghost use Rattle.view.specs.Meaning.{payloadIn, cellAt, sizeOf, afterOf, baseOf};
 ghost use Rattle.view.specs.Model.{emptyHeader, withEntry, withCommit, withHardState, withHardAt, unvotedHard, raisedFrom, raisedHard, coveredBy, withPointer, normalizedFrom, normalizedHard, finished};
 ghost use Rattle.view.specs.Kept.{keptPayload, keptEntry, cellFor, existingOf, Comparable, Writable};
 ghost use Rattle.view.specs.Decisions.{outcomeOf, answered, newRows, heldRows, heldFrom, acceptedHeld, replayed, entryAnswer, replayAnswer, hardStateRowsOf, followRowsOf, successorRowsOf, installRowsOf, pointerRowsOf};
@@ -825,5 +827,24 @@ pub fn put_payload(store: &mut [u8], at: usize, payload: DurableRaftEntryPayload
         } => {
             store::clear(store, at, MAX_COMMAND_BYTES);
         }
+    }
+}
+
+// The command of a payload that is kept with cell q of a block; a change of configuration has none.
+pub fn command(block: &[u8], q: usize, payload: EntryPayload) -> &[u8]
+    requires { ⌜ (64 * q + 64 ≤ length (now block)) × (sizeOf payload ≤ 64) ⌝ }
+    ensures { λ r. ⌜ now r ≡ commandBytes (payloadIn payload (cellAt (now (block .entry)) q)) ⌝ }
+{
+    match payload {
+        EntryPayload::Normal { len } => {
+            let at = 64 * q;
+            let end = at + len;
+            &block[at..end]
+        }
+        EntryPayload::Configuration {
+            kind: _,
+            expected_version: _,
+            replica_id: _,
+        } => &block[0..0],
     }
 }

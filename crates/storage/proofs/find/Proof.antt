@@ -5,10 +5,6 @@ use Rattle.storage.proofs.Finding.{is-past, is-held, is-missing}
 use borrow.Author.Needs.{needs}
 use Rattle.storage.proofs.find.Statement.{statement}
 use Rattle.storage.proofs.find.Tie as tie
-use Rattle.storage.proofs.find.Reads as reads
-use Rattle.storage.proofs.find.Lts as lts
-use Rattle.ids.proofs.same_identity.Reads as same-identity-reads
-use Rattle.storage.proofs.stands_at.Reads as stands-at-reads
 
 -- src/lib.rt:51:9
 stands-at-requires : tie.Need-stands-at-requires

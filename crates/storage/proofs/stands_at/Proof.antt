@@ -1,8 +1,7 @@
 -- `stands_at` meets its contract. The invariant: what is asked of the whole is what is asked of the rest.
 -- Assumes nothing.
-use Prim.Native.Nat.{_≤_, _-_, _+_, _<_, ℕ}
-use mathlib.Core.Path.{_≡_, refl, sym, ap, _∙_}
-use native.Mathlib.Omega.{arith}
+use Prim.Native.Nat.{_≤_, _-_, _+_}
+use mathlib.Core.Path.{_≡_, sym, _∙_}
 use borrow.Author.Needs.{needs}
 use borrow.Author.Tests.{not-true, not-false}
 use lib.ListN.{drop}
@@ -11,9 +10,6 @@ use Rattle.storage.specs.Place.{standsAt}
 use Rattle.storage.proofs.Finding.{stands-start, stands-turn, stands-stop, stands-end}
 use Rattle.storage.proofs.stands_at.Statement.{statement}
 use Rattle.storage.proofs.stands_at.Tie as tie
-use Rattle.storage.proofs.stands_at.Reads as reads
-use Rattle.storage.proofs.stands_at.Lts as lts
-use Rattle.ids.proofs.precedes.Reads as precedes-reads
 
 abbrev Inv-loop : tie.InvT-loop
 Inv-loop held identity heads p₀ p = (p ≤ held) × (standsAt (identityOf identity) held heads ≡ p + standsAt (identityOf identity) (held - p) (drop p heads))

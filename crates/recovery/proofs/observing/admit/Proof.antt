@@ -1,6 +1,6 @@
 -- `observing::admit` meets its contract.
 -- Assumes nothing.
-use mathlib.Core.Path.{_≡_, sym, ap, _∙_}
+use mathlib.Core.Path.{sym, ap, _∙_}
 use borrow.Author.Needs.{needs}
 use Rattle.ids.specs.Refusal.{checkedOf}
 use Rattle.recovery.proofs.Scanned.{scan-room}

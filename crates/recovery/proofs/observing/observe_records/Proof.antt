@@ -1,7 +1,7 @@
 -- `observing::observe_records` meets its contract. The invariant: what is asked of the chunk is what is asked of the rest of it.
 -- Assumes nothing.
-use mathlib.Core.Path.{_≡_, refl, sym, ap, subst, _∙_}
-use Prim.Native.Nat.{ℕ, _+_, _-_, _*_, _<_, _≤_}
+use mathlib.Core.Path.{_≡_, refl, sym, ap, _∙_}
+use Prim.Native.Nat.{_+_, _-_, _*_, _≤_}
 use native.Mathlib.Omega.{arith}
 use borrow.Author.Needs.{needs}
 use borrow.Author.Tests.{not-true, not-false}
@@ -10,7 +10,6 @@ use Rattle.codec.specs.Records.{ownerOf}
 use Rattle.replay.specs.Plan.{answerOf}
 use Rattle.storage.specs.declared.RecoveredRaftStorage.{RecoveredRaftStorage}
 use Rattle.storage.specs.Model.{headAt}
-use Rattle.recovery.specs.Runs.{atMost, Runs}
 use Rattle.recovery.proofs.Chunking.{Chunking, noRecord, most-is, chunk-size, chunk-at, runs-most, index-fits, chunk-start, chunk-end, chunk-takes, chunk-refused, chunk-opened, at-take, taken-length}
 use Rattle.recovery.proofs.Running.{runs-unsound}
 use Rattle.recovery.proofs.Stepped.{stepped-stale, stepped-foreign, stepped-malformed, stepped-full, stepped-held}

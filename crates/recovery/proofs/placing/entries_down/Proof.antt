@@ -1,18 +1,16 @@
 -- `placing::entries_down` meets its contract.
 -- Assumes nothing.
-use Prim.Native.Nat.{_≤_, _-_, _+_, _<_, ℕ}
-use mathlib.Core.Path.{_≡_, refl, sym, ap, _∙_}
+use Prim.Native.Nat.{_≤_, _-_}
+use mathlib.Core.Path.{_≡_, sym, ap, _∙_}
 use native.Mathlib.Omega.{arith}
 use borrow.Author.Needs.{needs}
 use lib.ListN.{length-map, length}
-use Rattle.store.specs.Splice.{splice, part}
-use Rattle.recovery.specs.Moves.{withHeads, withEntries}
+use Rattle.store.specs.Splice.{splice}
+use Rattle.recovery.specs.Moves.{withEntries}
 use Rattle.store.proofs.Part.{splice-none}
 use Rattle.recovery.proofs.Moves.{entriesDown, entries-down-turn}
 use Rattle.recovery.proofs.placing.entries_down.Statement.{statement}
 use Rattle.recovery.proofs.placing.entries_down.Tie as tie
-use Rattle.recovery.proofs.placing.entries_down.Reads as reads
-use Rattle.recovery.proofs.placing.entries_down.Lts as lts
 
 abbrev Inv-loop : tie.InvT-loop
 Inv-loop at from n t₀ j₀ t j = (j ≤ n) × (t ≡ entriesDown t₀ at from n j) × (length (t₀ .entries) ≡ 512)

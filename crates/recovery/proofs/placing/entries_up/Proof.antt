@@ -1,17 +1,14 @@
 -- `placing::entries_up` meets its contract.
 -- Assumes nothing.
-use Prim.Native.Nat.{_≤_, _-_, _+_, _<_, ℕ}
-use mathlib.Core.Path.{_≡_, refl, sym, ap, _∙_}
+use Prim.Native.Nat.{_≤_}
+use mathlib.Core.Path.{_≡_, sym, ap, _∙_}
 use native.Mathlib.Omega.{arith}
 use borrow.Author.Needs.{needs}
 use lib.ListN.{length-map, length}
-use Rattle.store.specs.Splice.{splice, part}
-use Rattle.recovery.specs.Moves.{withHeads, withEntries}
+use Rattle.recovery.specs.Moves.{withEntries}
 use Rattle.recovery.proofs.Moves.{entriesUp, up-none, up-all, entries-up-turn}
 use Rattle.recovery.proofs.placing.entries_up.Statement.{statement}
 use Rattle.recovery.proofs.placing.entries_up.Tie as tie
-use Rattle.recovery.proofs.placing.entries_up.Reads as reads
-use Rattle.recovery.proofs.placing.entries_up.Lts as lts
 
 abbrev Inv-loop : tie.InvT-loop
 Inv-loop at from n t₀ j₀ t j = (j ≤ n) × (t ≡ entriesUp t₀ at from n j) × (length (t₀ .entries) ≡ 512)

@@ -1,17 +1,14 @@
 -- `placing::heads_up` meets its contract.
 -- Assumes nothing.
-use Prim.Native.Nat.{_≤_, _-_, _+_, _<_, ℕ}
-use mathlib.Core.Path.{_≡_, refl, sym, ap, _∙_}
+use Prim.Native.Nat.{_≤_, _+_}
+use mathlib.Core.Path.{_≡_, sym, ap, _∙_}
 use native.Mathlib.Omega.{arith}
 use borrow.Author.Needs.{needs}
 use lib.ListN.{length-map, length}
-use Rattle.store.specs.Splice.{splice, part}
-use Rattle.recovery.specs.Moves.{withHeads, withEntries}
+use Rattle.recovery.specs.Moves.{withHeads}
 use Rattle.recovery.proofs.Moves.{headsUp, up-none, up-all, heads-up-turn}
 use Rattle.recovery.proofs.placing.heads_up.Statement.{statement}
 use Rattle.recovery.proofs.placing.heads_up.Tie as tie
-use Rattle.recovery.proofs.placing.heads_up.Reads as reads
-use Rattle.recovery.proofs.placing.heads_up.Lts as lts
 
 abbrev Inv-loop : tie.InvT-loop
 Inv-loop p n t₀ j₀ t j = (j ≤ n) × (t ≡ headsUp t₀ (p + 1) p n j) × (length (t₀ .heads) ≡ 8)

@@ -4,12 +4,6 @@ use Rattle.recovery.proofs.Written.{opened-is}
 use borrow.Author.Needs.{needs}
 use Rattle.recovery.proofs.placing.open_place.Statement.{statement}
 use Rattle.recovery.proofs.placing.open_place.Tie as tie
-use Rattle.recovery.proofs.placing.open_place.Reads as reads
-use Rattle.recovery.proofs.placing.open_place.Lts as lts
-use Rattle.recovery.proofs.placing.entries_up.Reads as entries-up-reads
-use Rattle.recovery.proofs.placing.heads_up.Reads as heads-up-reads
-use Rattle.store.proofs.open_block.Reads as open-block-reads
-use Rattle.view.proofs.Header.new.Reads as new-reads
 
 -- src/placing.rt:124:13
 sub-n : tie.Need-sub-n

@@ -1,0 +1,4 @@
+pub mod Answers
+pub mod Owns
+pub mod Readings
+pub mod Single

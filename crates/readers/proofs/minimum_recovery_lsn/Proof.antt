@@ -1,0 +1,53 @@
+-- `minimum_recovery_lsn` meets its contract.
+-- Assumes nothing.
+use mathlib.Core.Path.{refl, ap}
+use native.Mathlib.Omega.{arith}
+use borrow.Author.Tests.{not-true, not-false}
+use Rattle.definition.specs.Table.{ok}
+use Rattle.definition.specs.Recovery.{minimumRecoveryLsn}
+use Rattle.readers.proofs.Answers.{few-held, reads-unsound}
+use Rattle.readers.proofs.Owns.{owns, reads-own}
+use Rattle.readers.proofs.Readings.{minimum-is}
+use borrow.Author.Needs.{needs}
+use Rattle.readers.proofs.minimum_recovery_lsn.Statement.{statement}
+use Rattle.readers.proofs.minimum_recovery_lsn.Tie as tie
+
+passes-requires : tie.Need-passes-requires
+passes-requires c κs = search needs
+
+returns : tie.Need-returns
+returns c = reads-unsound (c .before .passes .ensures) (not-true _ (c .if1 .taken)) refl
+
+own-of-requires : tie.Need-own-of-requires
+own-of-requires c κs = few-held (c .before .passes .ensures) (not-false _ (c .if1 .left))
+
+kept-at-requires : tie.Need-kept-at-requires
+kept-at-requires c κs = (owns (c .before .before .passes .ensures) (not-false _ (c .before .if1 .left)) (c .own-of .ensures) .low, omega arith)
+
+first-retained-lsn-requires : tie.Need-first-retained-lsn-requires
+first-retained-lsn-requires c κs = search needs
+
+lesser-requires : tie.Need-lesser-requires
+lesser-requires c κs = search needs
+
+lesser-requires-2 : tie.Need-lesser-requires-2
+lesser-requires-2 c κs = search needs
+
+returns-2 : tie.Need-returns-2
+returns-2 c =
+    let a = c .before .before .before .before .before in
+    let w = owns (a .before .before .passes .ensures) (not-false _ (a .before .if1 .left)) (a .own-of .ensures) in
+    reads-own w minimumRecoveryLsn (ap ok (minimum-is _ _ _ (c .before .before .before .before .kept-at .ensures) (c .before .before .first-retained-lsn .ensures) (c .before .lesser .result) (c .lesser2 .result) (c .before .lesser .ensures) (c .lesser2 .ensures)))
+
+pub minimum-recovery-lsn-spec : {M : Type 1} → statement M
+minimum-recovery-lsn-spec =
+    tie.close
+    (tie.spec
+    passes-requires
+    returns
+    own-of-requires
+    kept-at-requires
+    first-retained-lsn-requires
+    lesser-requires
+    lesser-requires-2
+    returns-2)

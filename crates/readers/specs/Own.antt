@@ -1,0 +1,36 @@
+-- Where a replica stands in the state, and its header.
+-- Assumes nothing.
+use mathlib.Core.Path.{_≡_}
+use mathlib.Core.Bool.{Bool}
+use mathlib.Core.List.{List}
+use mathlib.Core.Option.{Option, none, some}
+use Prim.Native.Nat.{ℕ}
+use lib.ListN.{length}
+use Rattle.ids.specs.Identity.{identityOf}
+use Rattle.ids.specs.declared.RaftReplicaIdentity.{RaftReplicaIdentity}
+use Rattle.view.specs.Model.{emptyHeader}
+use Rattle.storage.specs.declared.RecoveredRaftStorage.{RecoveredRaftStorage}
+use Rattle.storage.specs.declared.Found.{Found}
+use Rattle.storage.specs.declared.Found.the-variants as F
+use Rattle.storage.specs.Model.{headAt}
+use Rattle.storage.specs.Finding.{foundAt}
+use Rattle.soundness.specs.Sound.{soundTest}
+use Rattle.readers.specs.declared.Own.{Own}
+
+-- The test of soundness, and the lengths of the state's arrays.
+pub record Passes (s : RecoveredRaftStorage) (st : List ℕ) (b : Bool) : Type 0 where
+  pub test : b ≡ soundTest s st
+  pub eight : length (s .heads) ≡ 8
+  pub all : length (s .entries) ≡ 512
+
+-- By the place of a replica; an empty header where it has none.
+abbrev pub ownIn : RecoveredRaftStorage → RaftReplicaIdentity → Option ℕ → Own
+ownIn s i none = record { place = 0; head = emptyHeader i }
+ownIn s i (some p) = record { place = p; head = headAt s p }
+
+abbrev pub foundPlace : Found → Option ℕ
+foundPlace (F.At p) = some p
+foundPlace (F.Missing p) = none
+
+abbrev pub ownFor : RecoveredRaftStorage → RaftReplicaIdentity → Own
+ownFor s i = ownIn s i (foundPlace (foundAt s (identityOf i)))
