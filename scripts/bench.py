@@ -1,0 +1,54 @@
+#!/usr/bin/env python3
+"""Times observing beside the Rust original, in one run, alternating.
+
+    scripts/bench.py ORACLE-BENCH [RUNS]
+
+ORACLE-BENCH is the original's benchmark, built without overflow checks. The journal is the one that crates/bench makes:
+4,096 records of six replicas. Prints the median of RUNS (default 5) for each, and the ratio to the original's.
+"""
+import os, re, statistics, subprocess, sys, tempfile
+
+
+def journal():
+    lines = [f'commands 256'] + [''.join(f'{(32 * n + j) % 251:02x}' for j in range(32)) for n in range(256)] + ['records 4096']
+    last, command = [0] * 6, [0] * 6
+    for i in range(4096):
+        p, k, own = i % 6, i // 6, f'{1 + (i % 6) // 2} {1 + i % 2}'
+        if k % 40 == 39:
+            x = max(1, last[p] - 5)
+            lines.append(f'P {i + 1} 1 {own} 7 {x} 1 {x} 77 5 ' + ''.join(f'{n:016x}' for n in (1, 2, 3, 4)))
+        elif k % 4 == 3:
+            lines.append(f'H {i + 1} 1 {own} 1 3 {max(1, last[p] - 1)}')
+        else:
+            if k % 16 != 5:
+                last[p], command[p] = last[p] + 1, k
+            lines.append(f'E {i + 1} 1 {own} {last[p]} 1 N {command[p] % 256 + 1}')
+    return '\n'.join(lines) + '\n'
+
+
+def ours(mode, digit):
+    """Seconds of processor time of 10 * digit rounds."""
+    before = os.times()
+    subprocess.run(['target/bin/bench'], input=f'{mode} {digit}\n'.encode(), stdout=subprocess.DEVNULL, check=True)
+    after = os.times()
+    return after.children_user - before.children_user
+
+
+def main():
+    oracle, runs = sys.argv[1], int(sys.argv[2]) if len(sys.argv) > 2 else 5
+    with tempfile.NamedTemporaryFile('w', suffix='.journal') as f:
+        f.write(journal())
+        f.flush()
+        rust, chunks, calls = [], [], []
+        for _ in range(runs):
+            said = subprocess.run([oracle, f.name, '90'], capture_output=True, text=True, check=True).stdout
+            assert 'accepted in each round 4096' in said, said
+            rust.append(float(re.search(r'observe and finish only: .*\(([0-9.]+) us a journal\)', said).group(1)) * 1000 / 4096)
+            chunks.append((ours(1, 9) - ours(0, 9)) * 1e9 / 90 / 4096)
+            calls.append((ours(2, 1) - ours(0, 1)) * 1e9 / 10 / 4096)
+    base = statistics.median(rust)
+    for name, times in (('the original, observe and finish', rust), ('observe_records, chunks of 64, and finish', chunks), ('observe_record, each call checked', calls)):
+        print(f'{statistics.median(times):8.0f} ns a record   {statistics.median(times) / base:6.2f}   {name}')
+
+
+main()
