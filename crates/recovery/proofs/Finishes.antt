@@ -47,12 +47,6 @@ largest-turn n d a m q x l b w e =
     max-swap : (i j k : ℕ) → max i (max j k) ≡ max (max i j) k
     max-swap i j k = omega arith
 
-pub larger : (m x : ℕ) → m < x → x ≡ max m x
-larger m x l = omega arith
-
-pub not-larger : (m x : ℕ) → x ≤ m → m ≡ max m x
-not-larger m x l = omega arith
-
 pub largest-end : (n : ℕ) (es : List RecoveredRaftLogEntry) (m q : ℕ) → n ≤ q → largestLeft n es m q ≡ m
 largest-end n es m q l =
     let k : n - q ≡ 0 = omega arith in

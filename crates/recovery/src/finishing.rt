@@ -2,9 +2,8 @@
 use ids::Refusal;
 use storage::RecoveredRaftStorage;
 ghost use mathlib.Core.Path.{_≡_};
-ghost use Prim.Native.Nat.{_≤_, _<_};
-ghost use Rattle.view.specs.Model.{maximumTerm};
-ghost use Rattle.storage.specs.Model.{headAt, entriesIn, finishedStorage};
+ghost use Prim.Native.Nat.{max};
+ghost use Rattle.storage.specs.Model.{finishedStorage};
 ghost use Rattle.soundness.specs.Sound.{Limits};
 ghost use Rattle.recovery.specs.Finishes.{Finishes};
 
@@ -20,25 +19,17 @@ pub struct Finished {
     pub state: RecoveredRaftStorage,
 }
 
-// The largest of the boundary's term and the terms held at replica place p.
-fn largest_term(state: RecoveredRaftStorage, p: usize) -> u64
-    requires { ⌜ (p < 8) × (headAt state p .len ≤ 64) ⌝ }
-    ensures { λ r. ⌜ r ≡ maximumTerm (headAt state p) (entriesIn state p) ⌝ }
+// The larger of two terms.
+fn larger(a: u64, b: u64) -> u64
+    ensures { λ r. ⌜ r ≡ max a b ⌝ }
 {
-    let head = state.heads[p];
-    let mut m = head.snapshot_term;
-    let mut q: usize = 0;
-    while q < head.len {
-        let e = state.entries[64 * p + q];
-        if m < e.term {
-            m = e.term;
-        }
-        q = q + 1;
+    if a < b {
+        return b;
     }
-    m
+    a
 }
 
-// Every held replica is finished.
+// Every held replica is finished: m is the largest of its boundary's term and its entries' terms.
 fn finish_all(state: RecoveredRaftStorage) -> RecoveredRaftStorage
     requires { ⌜ Limits state ⌝ }
     ensures { λ r. ⌜ r ≡ finishedStorage state ⌝ }
@@ -46,8 +37,14 @@ fn finish_all(state: RecoveredRaftStorage) -> RecoveredRaftStorage
     let mut t = state;
     let mut j: usize = 0;
     while j < t.held {
-        let m = largest_term(t, j);
         let head = t.heads[j];
+        let mut m = head.snapshot_term;
+        let mut q: usize = 0;
+        while q < head.len {
+            let e = t.entries[64 * j + q];
+            m = larger(m, e.term);
+            q = q + 1;
+        }
         let next = head.normalize_hard_state_term(m);
         t.heads[j] = next;
         j = j + 1;
