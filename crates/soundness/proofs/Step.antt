@@ -2,7 +2,7 @@
 -- after it.
 -- Assumes nothing.
 use mathlib.Core.Path.{_≡_, refl, sym, ap, _∙_}
-use mathlib.Core.Bool.{Bool, true, false, not, _&&_, Bool·beq}
+use mathlib.Core.Bool.{Bool, true, false, not, _&&_, cond, and-assoc, Bool·beq}
 use mathlib.Core.List.{List}
 use mathlib.Core.Option.{Option}
 use Prim.Native.Nat.{ℕ, zero, suc, _+_, _-_, _*_, _<_, _≤_}
@@ -15,21 +15,24 @@ use lib.Seq.{drop-drop, take-all}
 use Rattle.definition.specs.Records.{before}
 use Rattle.definition.specs.Table.{_≤?_}
 use Rattle.store.specs.Splice.{part}
-use Rattle.store.proofs.Part.{getD-part}
+use Rattle.store.proofs.Part.{length-part, getD-part, part-part}
 use Rattle.store.specs.Zeros.{allZero}
 use Rattle.view.specs.declared.Header.{Header}
 use Rattle.view.specs.declared.RecoveredRaftLogEntry.{RecoveredRaftLogEntry}
 use Rattle.view.specs.Meaning.{noEntry, idOf}
 use Rattle.storage.specs.Model.{noHeader}
-use Rattle.soundness.specs.Sound.{entryOk, entriesOk, replicaOk, replicasOk, headsRise}
+use Rattle.soundness.specs.Sound.{headOk, entryOk, entriesOk, replicaOk, replicasOk, headsRise}
 use Rattle.storage.proofs.Walk.{first-left, second-left, past}
+use Rattle.soundness.proofs.Test.{head-short}
 
--- A flag that was set, and one that was not.
-pub flag-bad : (bad w : Bool) {x : Bool} → x ≡ (not bad && w) → bad ≡ true → x ≡ false
-flag-bad bad w p e = p ∙ ap (λ (b : Bool). not b && w) e
+-- One turn of a walk that keeps whether all was well: x is what is asked of the whole, w of the rest, t of the next and v past it.
+pub kept : (good t v : Bool) {x w u g : Bool} → x ≡ (good && w) → w ≡ (t && v) → u ≡ t → g ≡ (good && u) → x ≡ (g && v)
+kept good t v p e f d = p ∙ ap (λ (b : Bool). good && b) e ∙ sym (ap (λ (b : Bool). b && v) (d ∙ ap (λ (b : Bool). good && b) f) ∙ and-assoc good t v)
 
-pub flag-good : (bad w : Bool) {x : Bool} → x ≡ (not bad && w) → bad ≡ false → x ≡ w
-flag-good bad w p e = p ∙ ap (λ (b : Bool). not b && w) e
+-- Behind a flag that is not set any number will do.
+guarded : (ok : Bool) (f : ℕ → Bool) (n : ℕ) (v : Bool) → (ok && f n && v) ≡ (ok && (f (cond ok n 0) && v))
+guarded true f n v = refl
+guarded false f n v = refl
 
 pub beq-true : (b : Bool) → Bool·beq true b ≡ b
 beq-true true = refl
@@ -51,7 +54,7 @@ module _ (last : Option ℕ) where
   abbrev pub entriesLeft : ℕ → List RecoveredRaftLogEntry → List ℕ → ℕ → Bool
   entriesLeft n es cs q = entriesOk last (n - q) (drop q es) (drop (64 * q) cs)
 
-  pub entries-begin : (n : ℕ) (es : List RecoveredRaftLogEntry) (cs : List ℕ) → entriesOk last n es cs ≡ (not false && entriesLeft n es cs 0)
+  pub entries-begin : (n : ℕ) (es : List RecoveredRaftLogEntry) (cs : List ℕ) → entriesOk last n es cs ≡ entriesLeft n es cs 0
   entries-begin n es cs = let e : n - 0 ≡ n = omega arith in sym (ap (λ (m : ℕ). entriesOk last m es cs) e)
 
   pub entries-step : (n : ℕ) (es : List RecoveredRaftLogEntry) (cs : List ℕ) (q : ℕ) → q < n
@@ -60,18 +63,6 @@ module _ (last : Option ℕ) where
   entries-step n es cs q h =
       let e : n - q ≡ suc (n - (q + 1)) = (omega arith) ∙ add-one (n - (q + 1)) in
       rw (e, first-left es q noEntry, past 64 cs q, drop-drop 1 q es)
-
-  -- As the code reads them, `from` being the place of the first.
-  pub entries-turn : (n from : ℕ) (es : List RecoveredRaftLogEntry) (cs : List ℕ) (q : ℕ) → q < n → n ≤ 64
-      → entriesLeft n (part from 64 es) cs q
-      ≡ (entryOk last (getD es (from + q) noEntry) (take (64 * q + 64 - 64 * q) (drop (64 * q) cs)) && entriesLeft n (part from 64 es) cs (q + 1))
-  entries-turn n from es cs q h k =
-      let rest : Bool = entriesLeft n (part from 64 es) cs (q + 1) in
-      let e : getD (part from 64 es) q noEntry ≡ getD es (from + q) noEntry = getD-part from 64 es q noEntry (omega arith) in
-      let f : 64 ≡ 64 * q + 64 - 64 * q = sym (add-sub-cancel-left (64 * q) 64) in
-      entries-step n (part from 64 es) cs q h
-      ∙ ap (λ (x : RecoveredRaftLogEntry). entryOk last x (part (64 * q) 64 cs) && rest) e
-      ∙ ap (λ (m : ℕ). entryOk last (getD es (from + q) noEntry) (take m (drop (64 * q) cs)) && rest) f
 
   pub entries-end : (n : ℕ) (es : List RecoveredRaftLogEntry) (cs : List ℕ) (q : ℕ) → q ≡ n → entriesLeft n es cs q ≡ allZero (drop (64 * n) cs)
   unfolding entriesOk
@@ -83,7 +74,7 @@ module _ (last : Option ℕ) where
   abbrev pub replicasLeft : ℕ → List Header → List RecoveredRaftLogEntry → List ℕ → ℕ → Bool
   replicasLeft n hs es st p = replicasOk last (n - p) (drop p hs) (drop (64 * p) es) (drop (4096 * p) st)
 
-  pub replicas-begin : (n : ℕ) (hs : List Header) (es : List RecoveredRaftLogEntry) (st : List ℕ) → replicasOk last n hs es st ≡ (not false && replicasLeft n hs es st 0)
+  pub replicas-begin : (n : ℕ) (hs : List Header) (es : List RecoveredRaftLogEntry) (st : List ℕ) → replicasOk last n hs es st ≡ replicasLeft n hs es st 0
   replicas-begin n hs es st = let e : n - 0 ≡ n = omega arith in sym (ap (λ (m : ℕ). replicasOk last m hs es st) e)
 
   pub replicas-step : (n : ℕ) (hs : List Header) (es : List RecoveredRaftLogEntry) (st : List ℕ) (p : ℕ) → p < n
@@ -93,15 +84,54 @@ module _ (last : Option ℕ) where
       let e : n - p ≡ suc (n - (p + 1)) = (omega arith) ∙ add-one (n - (p + 1)) in
       rw (e, first-left hs p noHeader, past 64 es p, past 4096 st p, drop-drop 1 p hs)
 
-  -- As the code reads them.
-  pub replicas-turn : (n : ℕ) (hs : List Header) (es : List RecoveredRaftLogEntry) (st : List ℕ) (p : ℕ) → p < n
-      → replicasLeft n hs es st p
-      ≡ (replicaOk last (getD hs p noHeader) (part (64 * p) 64 es) (take (4096 * p + 4096 - 4096 * p) (drop (4096 * p) st)) && replicasLeft n hs es st (p + 1))
-  replicas-turn n hs es st p h =
-      let rest : Bool = replicasLeft n hs es st (p + 1) in
-      let f : 4096 ≡ 4096 * p + 4096 - 4096 * p = sym (add-sub-cancel-left (4096 * p) 4096) in
-      replicas-step n hs es st p h
-      ∙ ap (λ (m : ℕ). replicaOk last (getD hs p noHeader) (part (64 * p) 64 es) (take m (drop (4096 * p) st)) && rest) f
+  -- No more entries are walked than a replica holds.
+  pub walked-short : (h : Header) (ok : Bool) (m : ℕ) → ok ≡ headOk last h → m ≡ cond ok (h .len) 0 → m ≤ 64
+  walked-short h true m e d = let s : h .len ≤ 64 = head-short last h (sym e) in omega arith
+  walked-short h false m e d = omega arith
+
+  -- The turns as the code takes them, at replica p: its header, its entries, the rest of its block; v is asked past it.
+  module _ (hs : List Header) (es : List RecoveredRaftLogEntry) (st : List ℕ) (p : ℕ) where
+    abbrev pub blockLeft : ℕ → ℕ → Bool
+    blockLeft m q = entriesLeft m (part (64 * p) 64 es) (part (4096 * p) 4096 st) q
+
+    pub head-turn : (n : ℕ) → p < n → (ok : Bool) (m : ℕ) → ok ≡ headOk last (getD hs p noHeader) → m ≡ cond ok (getD hs p noHeader .len) 0
+        → replicasLeft n hs es st p ≡ (ok && (blockLeft m 0 && replicasLeft n hs es st (p + 1)))
+    head-turn n h ok m e d =
+        let v : Bool = replicasLeft n hs es st (p + 1) in
+        let f : ℕ → Bool = λ (k : ℕ). entriesOk last k (part (64 * p) 64 es) (part (4096 * p) 4096 st) in
+        let len : ℕ = getD hs p noHeader .len in
+        replicas-step n hs es st p h
+        ∙ ap (λ (b : Bool). b && f len && v) (sym e)
+        ∙ guarded ok f len v
+        ∙ ap (λ (k : ℕ). ok && (f k && v)) (sym d)
+        ∙ ap (λ (b : Bool). ok && (b && v)) (entries-begin m (part (64 * p) 64 es) (part (4096 * p) 4096 st))
+
+    pub entry-turn : (m q : ℕ) (v : Bool) → q < m → m ≤ 64 → 4096 * p + 4096 ≤ length st
+        → (blockLeft m q && v)
+        ≡ (entryOk last (getD es (64 * p + q) noEntry) (take (4096 * p + 64 * q + 64 - (4096 * p + 64 * q)) (drop (4096 * p + 64 * q) st)) && (blockLeft m (q + 1) && v))
+    entry-turn m q v h k w =
+        let rest : Bool = blockLeft m (q + 1) in
+        let e : getD (part (64 * p) 64 es) q noEntry ≡ getD es (64 * p + q) noEntry = getD-part (64 * p) 64 es q noEntry (omega arith) in
+        let c : part (64 * q) 64 (part (4096 * p) 4096 st) ≡ part (4096 * p + 64 * q) 64 st = part-part (4096 * p) 4096 st (64 * q) 64 (omega arith) w in
+        let f : 64 ≡ 4096 * p + 64 * q + 64 - (4096 * p + 64 * q) = sym (add-sub-cancel-left (4096 * p + 64 * q) 64) in
+        let x : RecoveredRaftLogEntry = getD es (64 * p + q) noEntry in
+        ap (λ (b : Bool). b && v)
+        (entries-step m (part (64 * p) 64 es) (part (4096 * p) 4096 st) q h
+        ∙ ap (λ (y : RecoveredRaftLogEntry). entryOk last y (part (64 * q) 64 (part (4096 * p) 4096 st)) && rest) e
+        ∙ ap (λ (l : List ℕ). entryOk last x l && rest) c
+        ∙ ap (λ (y : ℕ). entryOk last x (take y (drop (4096 * p + 64 * q) st)) && rest) f)
+        ∙ and-assoc (entryOk last x (take (4096 * p + 64 * q + 64 - (4096 * p + 64 * q)) (drop (4096 * p + 64 * q) st))) rest v
+
+    pub block-turn : (m q : ℕ) (v : Bool) → q ≡ m → m ≤ 64 → 4096 * p + 4096 ≤ length st
+        → (blockLeft m q && v) ≡ (allZero (take (4096 * p + 4096 - (4096 * p + 64 * m)) (drop (4096 * p + 64 * m) st)) && v)
+    block-turn m q v h k w =
+        let size : length (part (4096 * p) 4096 st) ≡ 4096 = length-part (4096 * p) 4096 st w in
+        let f : 4096 - 64 * m ≡ 4096 * p + 4096 - (4096 * p + 64 * m) = omega arith in
+        ap (λ (b : Bool). b && v)
+        (entries-end m (part (64 * p) 64 es) (part (4096 * p) 4096 st) q h
+        ∙ ap allZero (sym (tail-is (part (4096 * p) 4096 st) (64 * m) 4096 size)
+        ∙ part-part (4096 * p) 4096 st (64 * m) (4096 - 64 * m) (omega arith) w
+        ∙ ap (λ (y : ℕ). take y (drop (4096 * p + 64 * m) st)) f))
 
   pub replicas-end : (n : ℕ) (hs : List Header) (es : List RecoveredRaftLogEntry) (st : List ℕ) (p : ℕ) → p ≡ n → replicasLeft n hs es st p ≡ allZero (drop (4096 * n) st)
   unfolding replicasOk

@@ -132,14 +132,14 @@ unfolding entryClauses
 entry-passes last e c l h r k =
     all-test (entryClauses last e c) (le-leb (sizeOf (e .payload)) 64 h, (r, (holds-cell (e .payload) c l h k, tt)))
 
+pub head-short : (last : Option ℕ) (h : Header) → headOk last h ≡ true → h .len ≤ 64
+unfolding headClauses
+head-short last h e = leb-true (h .len) 64 (all-facts (headClauses last h) e .1 .0)
+
 -- One replica.
 module _ (last : Option ℕ) (h : Header) (es : List RecoveredRaftLogEntry) (cs : List ℕ) (lc : length cs ≡ 4096) where
   cell-length : (q : ℕ) → q < 64 → length (cellAt cs q) ≡ 64
   cell-length q l = length-part (64 * q) 64 cs (omega arith)
-
-  pub head-short : headOk last h ≡ true → h .len ≤ 64
-  unfolding headClauses
-  head-short e = leb-true (h .len) 64 (all-facts (headClauses last h) e .1 .0)
 
   pub head-indices : headOk last h ≡ true → baseOf h + h .len ≤ u64-max + 1
   unfolding headClauses
@@ -176,7 +176,7 @@ module _ (last : Option ℕ) (h : Header) (es : List RecoveredRaftLogEntry) (cs 
 
     pub replica-fits : Fits h es cs
     replica-fits =
-        let sh : h .len ≤ 64 = head-short head-passes in
+        let sh : h .len ≤ 64 = head-short last h head-passes in
         record {
           short = sh;
           indices = head-indices head-passes;

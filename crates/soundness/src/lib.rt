@@ -9,14 +9,14 @@ use view::Header;
 use view::MaybeLsn;
 use view::RecoveredRaftLogEntry;
 ghost use mathlib.Core.Path.{_≡_};
+ghost use mathlib.Core.Bool.{_&&_, cond};
 ghost use mathlib.Core.List.{[]};
-ghost use Prim.Native.Nat.{_+_, _≤_};
+ghost use Prim.Native.Nat.{_≤_};
 ghost use lib.ListN.{length};
 ghost use Rattle.definition.specs.Recovery.{nonzeroIdentity, wholeBoundary, pointersBoundary, boundarysProgress, nonzeroVote, reachedBy};
 ghost use Rattle.ids.specs.Identity.{identityOf};
-ghost use Rattle.store.specs.Splice.{part};
 ghost use Rattle.view.specs.Meaning.{lsnOf, sizeOf, logOf};
-ghost use Rattle.soundness.specs.Sound.{lsnOk, headOk, entryOk, entriesOk, replicaOk, replicasOk, headsRise, soundTest};
+ghost use Rattle.soundness.specs.Sound.{lsnOk, headOk, entryOk, headsRise, soundTest};
 ghost use Rattle.soundness.specs.Fit.{fitOf, lsnsOf};
 
 // Whether an LSN does not exceed the last scanned.
@@ -190,76 +190,24 @@ fn entry_ok(last: MaybeLsn, e: RecoveredRaftLogEntry, cell: &[u8]) -> bool
     store::is_zero(&cell[n..64])
 }
 
-// The n entries from a place on with the cells of their block, and zeros in the rest of it.
-fn entries_ok(
-    last: MaybeLsn,
-    n: usize,
-    entries: [RecoveredRaftLogEntry; 512],
-    from: usize,
-    block: &[u8],
-) -> bool
-    requires { ⌜ (n ≤ 64) × (from + 64 ≤ 512) × (length (now block) ≡ 4096) ⌝ }
-    ensures { λ r. ⌜ r ≡ entriesOk (lsnOf last) n (part from 64 entries) (now (block .entry)) ⌝ }
+// The entries to walk: none behind a header that is not well.
+fn walked(ok: bool, len: usize) -> usize
+    ensures { λ r. ⌜ r ≡ cond ok len 0 ⌝ }
 {
-    let mut bad = false;
-    let mut q: usize = 0;
-    while q < n {
-        let e = entries[from + q];
-        let at = 64 * q;
-        let end = at + 64;
-        if !entry_ok(last, e, &block[at..end]) {
-            bad = true;
-        }
-        q = q + 1;
+    if ok {
+        return len;
     }
-    let rest = 64 * n;
-    if bad {
-        return false;
-    }
-    store::is_zero(&block[rest..4096])
+    0
 }
 
-// A held replica: its header, its entries and its block.
-fn replica_ok(
-    last: MaybeLsn,
-    h: Header,
-    entries: [RecoveredRaftLogEntry; 512],
-    from: usize,
-    block: &[u8],
-) -> bool
-    requires { ⌜ (from + 64 ≤ 512) × (length (now block) ≡ 4096) ⌝ }
-    ensures { λ r. ⌜ r ≡ replicaOk (lsnOf last) h (part from 64 entries) (now (block .entry)) ⌝ }
+// Both flags.
+fn both(a: bool, b: bool) -> bool
+    ensures { λ r. ⌜ r ≡ (a && b) ⌝ }
 {
-    if !head_ok(last, h) {
-        return false;
+    if a {
+        return b;
     }
-    entries_ok(last, h.len, entries, from, block)
-}
-
-// The held replicas, and zeros in the rest of the store.
-fn replicas_ok(state: RecoveredRaftStorage, store: &[u8]) -> bool
-    requires { ⌜ (state .held ≤ 8) × (length (now store) ≡ 32768) ⌝ }
-    ensures { λ r. ⌜ r ≡ replicasOk (lsnOf (state .scan .«last_scanned_lsn»)) (state .held) (state .heads) (state .entries) (now (store .entry)) ⌝ }
-{
-    let scan = state.scan;
-    let last = scan.last_scanned_lsn;
-    let entries = state.entries;
-    let mut bad = false;
-    let mut p: usize = 0;
-    while p < state.held {
-        let h = state.heads[p];
-        let at = 4096 * p;
-        let end = at + 4096;
-        if !replica_ok(last, h, entries, 64 * p, &store[at..end]) {
-            bad = true;
-        }
-        p = p + 1;
-    }
-    let rest = 4096 * state.held;
-    if bad {
-        return false;
-    }
-    store::is_zero(&store[rest..32768])
+    false
 }
 
 // Each of n headers is before the next.
@@ -282,7 +230,7 @@ fn heads_rise(n: usize, heads: [Header; 8]) -> bool
     !bad
 }
 
-// Whether a state and its store are sound.
+// Whether a state and its store are sound. All is walked here, since a call with the entries would copy them.
 pub fn is_sound(state: RecoveredRaftStorage, store: &[u8]) -> bool
     ensures { λ r. ⌜ r ≡ soundTest state (now (store .entry)) ⌝ }
 {
@@ -296,9 +244,28 @@ pub fn is_sound(state: RecoveredRaftStorage, store: &[u8]) -> bool
     if u64::MAX <= scan.scanned_records {
         return false;
     }
+    let last = scan.last_scanned_lsn;
     let heads = state.heads;
-    if !heads_rise(state.held, heads) {
-        return false;
+    let mut good = heads_rise(state.held, heads);
+    let mut p: usize = 0;
+    while p < state.held {
+        let h = heads[p];
+        let ok = head_ok(last, h);
+        good = both(good, ok);
+        let block = 4096 * p;
+        let n = walked(ok, h.len);
+        let mut q: usize = 0;
+        while q < n {
+            let e = state.entries[64 * p + q];
+            let at = block + 64 * q;
+            let well = entry_ok(last, e, &store[at..at + 64]);
+            good = both(good, well);
+            q = q + 1;
+        }
+        let empty = store::is_zero(&store[block + 64 * n..block + 4096]);
+        good = both(good, empty);
+        p = p + 1;
     }
-    replicas_ok(state, store)
+    let rest = store::is_zero(&store[4096 * state.held..32768]);
+    both(good, rest)
 }
