@@ -4,13 +4,14 @@
     scripts/bench.py ORACLE-BENCH [RUNS]
 
 ORACLE-BENCH is the original's benchmark, built without overflow checks. The journal is the one that crates/bench makes:
-4,096 records of six replicas. Prints the median of RUNS (default 5) for each, and the ratio to the original's.
+4,096 records of six replicas. Prints the median of RUNS (default 5) for each, and the ratio to the original's. All by the clock:
+run it on a machine that does nothing else.
 """
-import os, re, statistics, subprocess, sys, tempfile
+import re, statistics, subprocess, sys, tempfile, time
 
 
 def journal():
-    lines = [f'commands 256'] + [''.join(f'{(32 * n + j) % 251:02x}' for j in range(32)) for n in range(256)] + ['records 4096']
+    lines = ['commands 256'] + [''.join(f'{(32 * n + j) % 251:02x}' for j in range(32)) for n in range(256)] + ['records 4096']
     last, command = [0] * 6, [0] * 6
     for i in range(4096):
         p, k, own = i % 6, i // 6, f'{1 + (i % 6) // 2} {1 + i % 2}'
@@ -27,11 +28,10 @@ def journal():
 
 
 def ours(mode, digit):
-    """Seconds of processor time of 10 * digit rounds."""
-    before = os.times()
+    """Seconds by the clock of 10 * digit rounds."""
+    before = time.perf_counter()
     subprocess.run(['target/bin/bench'], input=f'{mode} {digit}\n'.encode(), stdout=subprocess.DEVNULL, check=True)
-    after = os.times()
-    return after.children_user - before.children_user
+    return time.perf_counter() - before
 
 
 def main():
