@@ -44,8 +44,8 @@ def main():
             said = subprocess.run([oracle, f.name, '90'], capture_output=True, text=True, check=True).stdout
             assert 'accepted in each round 4096' in said, said
             rust.append(float(re.search(r'observe and finish only: .*\(([0-9.]+) us a journal\)', said).group(1)) * 1000 / 4096)
-            chunks.append((ours(1, 9) - ours(0, 9)) * 1e9 / 90 / 4096)
-            calls.append((ours(2, 1) - ours(0, 1)) * 1e9 / 10 / 4096)
+            chunks.append((ours(1, 9) - ours(1, 0)) * 1e9 / 90 / 4096)
+            calls.append((ours(2, 1) - ours(2, 0)) * 1e9 / 10 / 4096)
     base = statistics.median(rust)
     for name, times in (('the original, observe and finish', rust), ('observe_records, chunks of 64, and finish', chunks), ('observe_record, each call checked', calls)):
         print(f'{statistics.median(times):8.0f} ns a record   {statistics.median(times) / base:6.2f}   {name}')

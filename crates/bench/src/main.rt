@@ -1,6 +1,6 @@
 // A journal of 4,096 records on six replicas, made by rule (scripts/bench.py writes the same as text), and observed again and
 // again. Standard input has a mode and a digit N for 10 N rounds: '1 N' observes it in chunks and finishes, '2 N' by one call a
-// record, '0 N' only makes a fresh state and a zeroed store. It prints the count of scanned records, summed over the rounds.
+// record. It prints the count of scanned records, summed over the rounds.
 use codec::Checksum;
 use codec::DurableRaftEntryPayload;
 use codec::HardState;
@@ -193,22 +193,31 @@ fn make_journal() -> [Chunk; 64] {
     chunks
 }
 
-// All chunks, then finished; the count of scanned records.
-fn by_chunks(chunks: [Chunk; 64], lent: &[u8], store: &mut [u8]) -> u64 {
-    let mut t = RecoveredRaftStorage::fresh();
-    let mut j: usize = 0;
-    while j < 64 {
-        let c = chunks[j];
-        let records = c.records;
-        let d = observing::observe_records(t, records, 64, lent, store);
-        t = d.state;
-        j = j + 1;
+// All chunks, then finished, in each round; the counts of scanned records, summed.
+fn by_chunks(chunks: [Chunk; 64], rounds: u64, lent: &[u8], store: &mut [u8]) -> u64 {
+    let n = store.len();
+    let mut sum: u64 = 0;
+    let mut k: u64 = 0;
+    while k < rounds {
+        store::clear(store, 0, n);
+        let mut t = RecoveredRaftStorage::fresh();
+        let mut j: usize = 0;
+        while j < 64 {
+            let c = chunks[j];
+            let records = c.records;
+            let d = observing::observe_records(t, records, 64, lent, store);
+            t = d.state;
+            j = j + 1;
+        }
+        let done = finishing::finish(t, &store[..]);
+        let last = done.state;
+        sum = added(sum, last.scan.scanned_records);
+        k = k + 1;
     }
-    let done = finishing::finish(t, &store[..]);
-    let last = done.state;
-    last.scan.scanned_records
+    sum
 }
 
+// One call a record.
 fn one_by_one(
     records: [WalRecord; 64],
     t: RecoveredRaftStorage,
@@ -226,31 +235,33 @@ fn one_by_one(
     s
 }
 
-fn by_calls(chunks: [Chunk; 64], lent: &[u8], store: &mut [u8]) -> u64 {
-    let mut t = RecoveredRaftStorage::fresh();
-    let mut j: usize = 0;
-    while j < 64 {
-        let c = chunks[j];
-        let records = c.records;
-        t = one_by_one(records, t, lent, store);
-        j = j + 1;
+fn by_calls(chunks: [Chunk; 64], rounds: u64, lent: &[u8], store: &mut [u8]) -> u64 {
+    let n = store.len();
+    let mut sum: u64 = 0;
+    let mut k: u64 = 0;
+    while k < rounds {
+        store::clear(store, 0, n);
+        let mut t = RecoveredRaftStorage::fresh();
+        let mut j: usize = 0;
+        while j < 64 {
+            let c = chunks[j];
+            let records = c.records;
+            t = one_by_one(records, t, lent, store);
+            j = j + 1;
+        }
+        let done = finishing::finish(t, &store[..]);
+        let last = done.state;
+        sum = added(sum, last.scan.scanned_records);
+        k = k + 1;
     }
-    let done = finishing::finish(t, &store[..]);
-    let last = done.state;
-    last.scan.scanned_records
+    sum
 }
 
-fn round(mode: u8, chunks: [Chunk; 64], lent: &[u8], store: &mut [u8]) -> u64 {
-    let n = store.len();
-    store::clear(store, 0, n);
-    if mode == b'1' {
-        return by_chunks(chunks, lent, store);
-    }
+fn summed(mode: u8, chunks: [Chunk; 64], rounds: u64, lent: &[u8], store: &mut [u8]) -> u64 {
     if mode == b'2' {
-        return by_calls(chunks, lent, store);
+        return by_calls(chunks, rounds, lent, store);
     }
-    let t = RecoveredRaftStorage::fresh();
-    t.scan.scanned_records
+    by_chunks(chunks, rounds, lent, store)
 }
 
 // Ten rounds for each that a digit says.
@@ -286,12 +297,7 @@ fn main() {
     let chunks = make_journal();
     let mode = input[0];
     let rounds = rounds_of(input[2]);
-    let mut sum: u64 = 0;
-    let mut k: u64 = 0;
-    while k < rounds {
-        sum = added(sum, round(mode, chunks, &lent, &mut store));
-        k = k + 1;
-    }
+    let sum = summed(mode, chunks, rounds, &lent, &mut store);
     io::print_decimal(STDOUT_FILENO, sum);
     io::write_all(STDOUT_FILENO, b"\n");
 }

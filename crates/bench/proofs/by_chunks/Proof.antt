@@ -7,59 +7,91 @@ use borrow.Author.Needs.{needs}
 use Rattle.bench.proofs.by_chunks.Statement.{statement}
 use Rattle.bench.proofs.by_chunks.Tie as tie
 
+abbrev Inv-loop2 : tie.InvT-loop2
+Inv-loop2 rounds lent store₀ chunks n sum k t₀ j₀ store t j = (j ≤ 64) × (length store ≡ n)
+
+abbrev μ-loop2 : tie.MeasureT-loop2
+μ-loop2 rounds lent store₀ chunks n sum k t₀ j₀ store t j = 64 - j
+
 abbrev Inv-loop : tie.InvT-loop
-Inv-loop lent store₀ chunks t₀ j₀ store t j = (j ≤ 64) × (length store ≡ length store₀)
+Inv-loop rounds lent store₀ chunks n sum₀ k₀ store sum k = (k ≤ rounds) × (length store ≡ n) × (n ≡ length store₀)
 
 abbrev μ-loop : tie.MeasureT-loop
-μ-loop lent store₀ chunks t₀ j₀ store t j = 64 - j
+μ-loop rounds lent store₀ chunks n sum₀ k₀ store sum k = rounds - k
 
-fresh-requires : tie.Need-fresh-requires Inv-loop μ-loop
-fresh-requires c κs = search needs
-
-loop-holds : tie.Need-loop-holds Inv-loop μ-loop
+loop-holds : tie.Need-loop-holds Inv-loop2 μ-loop2 Inv-loop μ-loop
 loop-holds c = search needs
 
-mul-c : tie.Need-mul-c Inv-loop μ-loop
+clear-requires : tie.Need-clear-requires Inv-loop2 μ-loop2 Inv-loop μ-loop
+clear-requires c κs = search needs
+
+fresh-requires : tie.Need-fresh-requires Inv-loop2 μ-loop2 Inv-loop μ-loop
+fresh-requires c κs = search needs
+
+loop2-holds : tie.Need-loop2-holds Inv-loop2 μ-loop2 Inv-loop μ-loop
+loop2-holds c = search needs
+
+mul-c : tie.Need-mul-c Inv-loop2 μ-loop2 Inv-loop μ-loop
 mul-c c = search needs
 
-array-copy-out-c : tie.Need-array-copy-out-c Inv-loop μ-loop
+array-copy-out-c : tie.Need-array-copy-out-c Inv-loop2 μ-loop2 Inv-loop μ-loop
 array-copy-out-c c = search needs
 
-observe-records-requires : tie.Need-observe-records-requires Inv-loop μ-loop
+observe-records-requires : tie.Need-observe-records-requires Inv-loop2 μ-loop2 Inv-loop μ-loop
 observe-records-requires c κs = search needs
 
-add-j : tie.Need-add-j Inv-loop μ-loop
+add-j : tie.Need-add-j Inv-loop2 μ-loop2 Inv-loop μ-loop
 add-j c = search needs
 
-loop-less : tie.Need-loop-less Inv-loop μ-loop
-loop-less c = search needs
+loop2-less : tie.Need-loop2-less Inv-loop2 μ-loop2 Inv-loop μ-loop
+loop2-less c = search needs
 
-loop-again : tie.Need-loop-again Inv-loop μ-loop
-loop-again c = search needs
+loop2-again : tie.Need-loop2-again Inv-loop2 μ-loop2 Inv-loop μ-loop
+loop2-again c = search needs
 
-finish-requires : tie.Need-finish-requires Inv-loop μ-loop
+finish-requires : tie.Need-finish-requires Inv-loop2 μ-loop2 Inv-loop μ-loop
 finish-requires c κs = search needs
 
-same-length : tie.Need-same-length Inv-loop μ-loop
+added-requires : tie.Need-added-requires Inv-loop2 μ-loop2 Inv-loop μ-loop
+added-requires c κs = search needs
+
+add-k : tie.Need-add-k Inv-loop2 μ-loop2 Inv-loop μ-loop
+add-k c = search needs
+
+loop-less : tie.Need-loop-less Inv-loop2 μ-loop2 Inv-loop μ-loop
+loop-less c = search needs
+
+loop-again : tie.Need-loop-again Inv-loop2 μ-loop2 Inv-loop μ-loop
+loop-again c = search needs
+
+same-length : tie.Need-same-length Inv-loop2 μ-loop2 Inv-loop μ-loop
 same-length c = search needs
 
-returns : tie.Need-returns Inv-loop μ-loop
+returns : tie.Need-returns Inv-loop2 μ-loop2 Inv-loop μ-loop
 returns c = search needs
 
 pub by-chunks-spec : {M : Type 1} → statement M
 by-chunks-spec =
     tie.close
     (tie.spec
+    Inv-loop2
+    μ-loop2
     Inv-loop
     μ-loop
-    fresh-requires
     loop-holds
+    clear-requires
+    fresh-requires
+    loop2-holds
     mul-c
     array-copy-out-c
     observe-records-requires
     add-j
+    loop2-less
+    loop2-again
+    finish-requires
+    added-requires
+    add-k
     loop-less
     loop-again
-    finish-requires
     same-length
     returns)
