@@ -30,12 +30,12 @@ struct Replicas {
 
 // The records of a chunk, and what the replicas are then.
 struct Making {
-    records: [WalRecord; 64],
+    records: [WalRecord; 256],
     replicas: Replicas,
 }
 
 struct Chunk {
-    records: [WalRecord; 64],
+    records: [WalRecord; 256],
 }
 
 fn identity(p: usize) -> RaftReplicaIdentity {
@@ -133,16 +133,16 @@ fn appends(k: usize) -> bool {
     k % 16 != 5
 }
 
-// The 64 records from `from` on.
+// The 256 records from `from` on.
 fn make_chunk(replicas: Replicas, from: usize) -> Making {
     let first = WalRecord {
         lsn: Lsn::ZERO,
         body: RecordBody::Foreign,
     };
-    let mut records = [first; 64];
+    let mut records = [first; 256];
     let mut r = replicas;
     let mut j: usize = 0;
-    while j < 64 {
+    while j < 256 {
         let i = from % 4096 + j;
         let p = i % 6;
         let k = i / 6;
@@ -169,21 +169,21 @@ fn make_chunk(replicas: Replicas, from: usize) -> Making {
     }
 }
 
-fn make_journal() -> [Chunk; 64] {
+fn make_journal() -> [Chunk; 16] {
     let first = WalRecord {
         lsn: Lsn::ZERO,
         body: RecordBody::Foreign,
     };
-    let records = [first; 64];
+    let records = [first; 256];
     let blank = Chunk { records: records };
-    let mut chunks = [blank; 64];
+    let mut chunks = [blank; 16];
     let mut r = Replicas {
         last: [0; 6],
         command: [0; 6],
     };
     let mut j: usize = 0;
-    while j < 64 {
-        let m = make_chunk(r, 64 * j);
+    while j < 16 {
+        let m = make_chunk(r, 256 * j);
         let own = m.records;
         let chunk = Chunk { records: own };
         chunks[j] = chunk;
@@ -194,7 +194,7 @@ fn make_journal() -> [Chunk; 64] {
 }
 
 // All chunks, then finished, in each round; the counts of scanned records, summed.
-fn by_chunks(chunks: [Chunk; 64], rounds: u64, lent: &[u8], store: &mut [u8]) -> u64 {
+fn by_chunks(chunks: [Chunk; 16], rounds: u64, lent: &[u8], store: &mut [u8]) -> u64 {
     let n = store.len();
     let mut sum: u64 = 0;
     let mut k: u64 = 0;
@@ -202,10 +202,10 @@ fn by_chunks(chunks: [Chunk; 64], rounds: u64, lent: &[u8], store: &mut [u8]) ->
         store::clear(store, 0, n);
         let mut t = RecoveredRaftStorage::fresh();
         let mut j: usize = 0;
-        while j < 64 {
+        while j < 16 {
             let c = chunks[j];
             let records = c.records;
-            let d = observing::observe_records(t, records, 64, lent, store);
+            let d = observing::observe_records(t, records, 256, lent, store);
             t = d.state;
             j = j + 1;
         }
@@ -219,14 +219,14 @@ fn by_chunks(chunks: [Chunk; 64], rounds: u64, lent: &[u8], store: &mut [u8]) ->
 
 // One call a record.
 fn one_by_one(
-    records: [WalRecord; 64],
+    records: [WalRecord; 256],
     t: RecoveredRaftStorage,
     lent: &[u8],
     store: &mut [u8],
 ) -> RecoveredRaftStorage {
     let mut s = t;
     let mut i: usize = 0;
-    while i < 64 {
+    while i < 256 {
         let r = records[i];
         let d = observing::observe_record(s, r, lent, store);
         s = d.state;
@@ -235,7 +235,7 @@ fn one_by_one(
     s
 }
 
-fn by_calls(chunks: [Chunk; 64], rounds: u64, lent: &[u8], store: &mut [u8]) -> u64 {
+fn by_calls(chunks: [Chunk; 16], rounds: u64, lent: &[u8], store: &mut [u8]) -> u64 {
     let n = store.len();
     let mut sum: u64 = 0;
     let mut k: u64 = 0;
@@ -243,7 +243,7 @@ fn by_calls(chunks: [Chunk; 64], rounds: u64, lent: &[u8], store: &mut [u8]) -> 
         store::clear(store, 0, n);
         let mut t = RecoveredRaftStorage::fresh();
         let mut j: usize = 0;
-        while j < 64 {
+        while j < 16 {
             let c = chunks[j];
             let records = c.records;
             t = one_by_one(records, t, lent, store);
@@ -257,7 +257,7 @@ fn by_calls(chunks: [Chunk; 64], rounds: u64, lent: &[u8], store: &mut [u8]) -> 
     sum
 }
 
-fn summed(mode: u8, chunks: [Chunk; 64], rounds: u64, lent: &[u8], store: &mut [u8]) -> u64 {
+fn summed(mode: u8, chunks: [Chunk; 16], rounds: u64, lent: &[u8], store: &mut [u8]) -> u64 {
     if mode == b'2' {
         return by_calls(chunks, rounds, lent, store);
     }

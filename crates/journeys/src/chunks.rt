@@ -1,6 +1,7 @@
 // A case in chunks, held beside the same case record by record.
 use crate::journal;
 use crate::same;
+use codec::WalRecord;
 use recovery::observing;
 use replay::Observation;
 use storage::RecoveredRaftStorage;
@@ -89,7 +90,7 @@ struct Runs {
 fn used(taken: usize, said: u64) -> usize
     ensures { λ r. ⌜ r < 128 ⌝ }
 {
-    if 64 < taken {
+    if 126 < taken {
         return 0;
     }
     if said < 100 {
@@ -189,4 +190,25 @@ pub fn same_in_chunks(case: usize, lent: &[u8]) -> bool
         return false;
     }
     runs.same
+}
+
+// 256 records of no Raft kind, with rising LSNs.
+fn foreign_records() -> [WalRecord; 256] {
+    let first = journal::foreign(0);
+    let mut all = [first; 256];
+    let mut i: usize = 0;
+    while i < 256 {
+        let next = journal::foreign(i as u64);
+        all[i] = next;
+        i = i + 1;
+    }
+    all
+}
+
+// How many of 256 records a chunk takes that is said to have `count`.
+pub fn taken_of(count: usize, lent: &[u8]) -> usize {
+    let mut store = [0u8; 32768];
+    let s = RecoveredRaftStorage::fresh();
+    let done = observing::observe_records(s, foreign_records(), count, lent, &mut store);
+    done.taken
 }

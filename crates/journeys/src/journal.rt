@@ -248,14 +248,14 @@ pub fn record(case: usize, k: usize) -> WalRecord
     in_table(row)
 }
 
-// The 64 records from `at` on.
-pub fn records(case: usize, at: usize) -> [WalRecord; 64]
+// The 256 records from `at` on.
+pub fn records(case: usize, at: usize) -> [WalRecord; 256]
     requires { ⌜ (case < 16) × (at < 128) ⌝ }
 {
     let r = foreign(0);
-    let mut all = [r; 64];
+    let mut all = [r; 256];
     let mut i: usize = 0;
-    while i < 64 {
+    while i < 256 {
         let next = record(case, at + i);
         all[i] = next;
         i = i + 1;

@@ -110,9 +110,28 @@ fn journeys(lent: &[u8]) {
     }
 }
 
+// How many records a chunk takes, by the count that is handed with it.
+fn chunk_sizes(lent: &[u8]) {
+    chunk_size(0, lent);
+    chunk_size(1, lent);
+    chunk_size(255, lent);
+    chunk_size(256, lent);
+    chunk_size(257, lent);
+    chunk_size(usize::MAX, lent);
+}
+
+fn chunk_size(count: usize, lent: &[u8]) {
+    text::put(b"chunk");
+    text::number(count as u64);
+    text::put(b" taken");
+    text::number(chunks::taken_of(count, lent) as u64);
+    text::put(b"\n");
+}
+
 fn main() {
     let lent = b"0123456789ABCDEFGHIJKLMNOPQRSTUVWXYZabcdefghijklmnopqrstuvwxyz-+*/.,:;!?";
     journeys(lent);
     behind_pointer(lent);
+    chunk_sizes(lent);
     states_by_hand(lent);
 }

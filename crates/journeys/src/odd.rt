@@ -80,10 +80,10 @@ fn garbage(s: RecoveredRaftStorage, store: &[u8]) {
 }
 
 // Foreign records at 11 and 12.
-fn two_foreign() -> [WalRecord; 64] {
+fn two_foreign() -> [WalRecord; 256] {
     let first = journal::foreign(11);
     let second = journal::foreign(12);
-    let mut records = [first; 64];
+    let mut records = [first; 256];
     records[1] = second;
     records
 }

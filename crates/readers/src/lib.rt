@@ -89,7 +89,8 @@ fn own_of(state: RecoveredRaftStorage, identity: RaftReplicaIdentity) -> Own
     ensures { λ r. ⌜ r ≡ ownFor state identity ⌝ }
 {
     let heads = state.heads;
-    let Found::At(p) = storage::find(heads, state.held, identity) else {
+    let own = storage::identities(heads);
+    let Found::At(p) = storage::find(own, state.held, identity) else {
         let empty = Header::new(identity);
         return Own {
             place: 0,

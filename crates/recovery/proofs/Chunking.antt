@@ -113,12 +113,12 @@ module _ (n : ℕ) (s : RecoveredRaftStorage) (st : List ℕ) (rs : List WalReco
 abbrev pub noRecord : WalRecord
 noRecord = record { lsn = record { 0 = 0 }; body = B.Foreign }
 
--- At most 64, and the first n of the records.
-pub most-is : (n : ℕ) → atMost n ≤ 64
-most-is n = go (ltb n 64) refl
+-- At most 256, and the first n of the records.
+pub most-is : (n : ℕ) → atMost n ≤ 256
+most-is n = go (ltb n 256) refl
   where
-    go : (b : Bool) → ltb n 64 ≡ b → cond b n 64 ≤ 64
-    go true e = let l : n < 64 = ltb-true n 64 e in omega arith
+    go : (b : Bool) → ltb n 256 ≡ b → cond b n 256 ≤ 256
+    go true e = let l : n < 256 = ltb-true n 256 e in omega arith
     go false e = omega arith
 
 pub at-take : (records : List WalRecord) (n i : ℕ) (z : WalRecord) → i < n → getD records i z ≡ getD (take n records) i z

@@ -43,9 +43,13 @@ module _ (s : RecoveredRaftStorage) (at from n : ℕ) where
       ap (λ (t : RecoveredRaftStorage). withEntries t (set (t .entries) (at + (j - 1)) (getD (t .entries) (from + (j - 1)) noEntry))) e
       ∙ ap (withEntries s) (turn-up (s .entries) at from n j noEntry h k l m)
 
-  -- Downwards, the first j are moved.
+-- Downwards, the first j are moved.
+module _ (s : RecoveredRaftStorage) (at from : ℕ) where
   abbrev pub entriesDown : ℕ → RecoveredRaftStorage
   entriesDown j = withEntries s (splice (s .entries) at (part from j (s .entries)))
+
+  pub down-none : s ≡ entriesDown 0
+  down-none = ap (withEntries s) (sym (splice-none (s .entries) at))
 
   pub entries-down-turn : (t : RecoveredRaftStorage) (j : ℕ) → t ≡ entriesDown j → at ≤ from → from + j < length (s .entries)
       → withEntries t (set (t .entries) (at + j) (getD (t .entries) (from + j) noEntry)) ≡ entriesDown (j + 1)

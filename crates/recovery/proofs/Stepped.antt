@@ -11,12 +11,13 @@ use borrow.Author.Tests.{ltb-true, ltb-false, leb-true, leb-false, le-leb, lt-le
 use lib.Dec.{ltb, leb}
 use lib.ListN.{length, getD, set, length-set}
 use Rattle.definition.specs.Table.{_≤?_, _when_, first-of, u64-max}
-use Rattle.definition.specs.Records.{Identity, Kind, formRows, Content, contentOf, content, Record}
+use Rattle.definition.specs.Records.{Identity, same, Kind, formRows, Content, contentOf, content, Record}
 use Rattle.definition.specs.Log as D
 use Rattle.definition.specs.Recovery.{held, Out, out, soundState, Recovery, soundStore, sound, observe}
 use Rattle.definition.specs.Two.{fitsKind, fitsContent, fits}
 use Rattle.definition.proofs.Sound.{over-test}
 use Rattle.ids.specs.declared.Lsn.{Lsn}
+use Rattle.ids.specs.declared.RaftReplicaIdentity.{RaftReplicaIdentity}
 use Rattle.ids.specs.Identity.{identityOf}
 use Rattle.store.specs.Splice.{part, splice}
 use Rattle.store.proofs.Part.{getD-part, set-block, splice-self, set-self}
@@ -42,10 +43,10 @@ use Rattle.storage.specs.declared.Scan.{Scan}
 use Rattle.storage.specs.declared.RecoveredRaftStorage.{RecoveredRaftStorage}
 use Rattle.storage.specs.Model.{noHeader, headAt, entriesIn, bytesIn, scanNext, scannedOnly, withHead, changed, opened, openedStore}
 use Rattle.storage.specs.Meaning.{logAt, meaning, recoveryOf, Linked, Observes}
-use Rattle.storage.specs.Place.{standsAt}
+use Rattle.storage.specs.Place.{ownersOf, standsAt}
 use Rattle.storage.proofs.At.{block-front, entries-length, bytes-length, step-at}
 use Rattle.storage.proofs.Open.{open-linked}
-use Rattle.storage.proofs.Place.{stands, stands-one, opened-stands, opened-same}
+use Rattle.storage.proofs.Place.{owner-at, stands, stands-one, opened-stands, opened-same}
 use Rattle.storage.specs.declared.Found.{Found}
 use Rattle.storage.specs.declared.Found.the-variants as F
 use Rattle.storage.specs.Finding.{foundAt}
@@ -86,6 +87,32 @@ plan-drops h e b (W.SnapshotPointer p) l cs lent =
     let n : ℕ = coveredBy h (p .«last_included_index») in
     let d : Plan = record { answer = D.kept; head = withPointer h p l n; entry = e; dropped = n; bytes = droppedBytes cs n } in
     unless-drops (first-of (pointerRowsOf (identityOf (p .identity)) h p (heldTermIn (placeOf h (p .«last_included_index»)) (e .term)))) h e cs d (λ x. (omega arith, refl))
+
+-- A plan keeps the identity of its header.
+entry-keeps : (a : D.Answer) (h : Header) (e : RecoveredRaftLogEntry) (r : RaftLogEntryRecord) (l : Lsn) (cs lent : List ℕ) → entryPlan a h e r l cs lent .head .identity ≡ h .identity
+entry-keeps D.counted h e r l cs lent = refl
+entry-keeps D.appended h e r l cs lent = refl
+entry-keeps D.idempotentReplay h e r l cs lent = refl
+entry-keeps D.kept h e r l cs lent = refl
+entry-keeps D.finished h e r l cs lent = refl
+entry-keeps (D.replacedSuffix m) h e r l cs lent = refl
+entry-keeps (D.refused n) h e r l cs lent = refl
+
+unless-keeps : (o : Option ℕ) (h : Header) (e : RecoveredRaftLogEntry) (cs : List ℕ) (d : Plan) → d .head .identity ≡ h .identity → unlessRow o h e cs d .head .identity ≡ h .identity
+unless-keeps (some n) h e cs d f = refl
+unless-keeps none h e cs d f = f
+
+pub plan-keeps : (h : Header) (e b : RecoveredRaftLogEntry) (k : RaftWalRecord) (l : Lsn) (cs lent : List ℕ) → planOf h e b k l cs lent .head .identity ≡ h .identity
+plan-keeps h e b (W.Entry r) l cs lent =
+    entry-keeps
+    (entryAnswer h (existingIn (placeOf h (r .index)) e cs r lent) (priorIn (placeOf h (r .index - 1)) (h .«snapshot_term») (b .term)) (r .index) (r .term))
+    h e r l cs lent
+plan-keeps h e b (W.HardState r) l cs lent =
+    unless-keeps (first-of (hardStateRowsOf h (r .«hard_state»))) h e cs (record { answer = D.kept; head = withHardState h (r .«hard_state») l; entry = e; dropped = 0; bytes = cs }) refl
+plan-keeps h e b (W.SnapshotPointer p) l cs lent =
+    let n : ℕ = coveredBy h (p .«last_included_index») in
+    unless-keeps (first-of (pointerRowsOf (identityOf (p .identity)) h p (heldTermIn (placeOf h (p .«last_included_index»)) (e .term)))) h e cs
+    (record { answer = D.kept; head = withPointer h p l n; entry = e; dropped = n; bytes = droppedBytes cs n }) refl
 
 -- From one block to the state.
 module _ (s : RecoveredRaftStorage) (st : List ℕ) (p : ℕ) (k : Linked s st) (lt : p < s .held) where
@@ -267,10 +294,12 @@ module _ (s : RecoveredRaftStorage) (st : List ℕ) (r : WalRecord) (lent : List
 
   pub opened-found : foundAt s⁺ (ownerOf k) ≡ F.At p
   opened-found =
-      let one : p ≡ standsAt i (s⁺ .held) (s⁺ .heads) =
-      stands-one s⁺ i p (standsAt i (s⁺ .held) (s⁺ .heads)) (opened-stands s st (identityIn k) p (told .0) (told .1) (ready .linked) lt) (stands i s⁺) in
+      let os : List RaftReplicaIdentity = ownersOf (s⁺ .heads) in
+      let one : p ≡ standsAt i (s⁺ .held) os =
+      stands-one s⁺ i p (standsAt i (s⁺ .held) os) (opened-stands s st (identityIn k) p (told .0) (told .1) (ready .linked) lt) (stands i s⁺) in
       let own : F.At p ≡ foundAt s⁺ i =
-      is-held (s⁺ .heads) (s⁺ .held) i p one (omega (arith, told .0 .within)) (opened-same s st (identityIn k) p (told .0) (told .1) (ready .linked) lt) in
+      is-held os (s⁺ .held) i p one (omega (arith, told .0 .within))
+      (ap (λ (o : RaftReplicaIdentity). same i (identityOf o)) (owner-at (s⁺ .heads) p) ∙ opened-same s st (identityIn k) p (told .0) (told .1) (ready .linked) lt) in
       subst (λ (j : Identity). foundAt s⁺ j ≡ F.At p) (owner-is k) (sym own)
 
   pub opened-again : Ready s⁺ st⁺ × (stepped s⁺ st⁺ r lent ≡ stepped s st r lent)

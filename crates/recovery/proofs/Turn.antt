@@ -14,9 +14,11 @@ use Rattle.storage.specs.declared.Found.{Found}
 use Rattle.storage.specs.declared.Found.the-variants as F
 use Rattle.storage.specs.Model.{headAt, bytesIn, scanNext, scannedOnly, withHead, changedStore}
 use Rattle.storage.specs.Finding.{foundIn, foundAt}
-use Rattle.storage.proofs.Finding.{Told, found-told}
+use Rattle.storage.specs.Place.{ownersOf}
+use Rattle.storage.proofs.Place.{owners-set}
+use Rattle.storage.proofs.Finding.{Told, found-told, found-among}
 use Rattle.recovery.specs.Observe.{Stepped, Ran, onlyScanned, movedEntries, written, planAt, settledAt}
-use Rattle.recovery.proofs.Stepped.{owner-is, Drops, plan-drops}
+use Rattle.recovery.proofs.Stepped.{owner-is, Drops, plan-drops, plan-keeps}
 use mathlib.Core.List.{List, [], _∷_, _++_, append-assoc}
 use types.Run.{OneOf, miss}
 use denote.Enum.Declared.{tagOf}
@@ -67,11 +69,17 @@ fits-record r lent = go (r .body)
     go (B.Raft (W.HardState h)) l = refl
     go (B.Raft (W.SnapshotPointer p)) l = le-leb (p .«last_included_index») u64-max l
 
--- Where the code finds a replica.
-pub found-of : (t : RecoveredRaftStorage) (k : RaftWalRecord) (i : RaftReplicaIdentity) (x y : Found) → i ≡ identityIn k → x ≡ foundIn (t .heads) (t .held) (identityOf i) → x ≡ y
-    → foundAt t (ownerOf k) ≡ y
-found-of t k i x y ei ex ey =
-    ap (λ (j : Identity). foundIn (t .heads) (t .held) j) (sym (owner-is k)) ∙ ap (λ (j : RaftReplicaIdentity). foundIn (t .heads) (t .held) (identityOf j)) (sym ei) ∙ sym ex ∙ ey
+-- Where the code finds a replica, among the identities that it keeps beside the state.
+pub found-of : (t : RecoveredRaftStorage) (k : RaftWalRecord) (i : RaftReplicaIdentity) (os : List RaftReplicaIdentity) (x y : Found) → os ≡ ownersOf (t .heads) → i ≡ identityIn k
+    → x ≡ foundIn os (t .held) (identityOf i) → x ≡ y → foundAt t (ownerOf k) ≡ y
+found-of t k i os x y eo ei ex ey =
+    ap (foundAt t) (sym (owner-is k)) ∙ ap (λ (j : RaftReplicaIdentity). foundAt t (identityOf j)) (sym ei) ∙ sym (found-among t (identityOf i) os x eo ex) ∙ ey
+
+-- They stay where a settled record's header is written.
+pub owners-kept : (t : RecoveredRaftStorage) (p : ℕ) (os : List RaftReplicaIdentity) (d : Change) (ys : List ℕ) (e b : RecoveredRaftLogEntry) (k : RaftWalRecord) (l : Lsn) (cs lent : List ℕ)
+    → os ≡ ownersOf (t .heads) → planned d ys ≡ planOf (headAt t p) e b k l cs lent → os ≡ ownersOf (set (t .heads) p (d .head))
+owners-kept t p os d ys e b k l cs lent eo ed =
+    eo ∙ sym (owners-set (t .heads) p (d .head) (ap (λ (x : Plan). x .head .identity) ed ∙ plan-keeps (headAt t p) e b k l cs lent))
 
 pub at-below : (t : RecoveredRaftStorage) (i : Identity) (p : ℕ) → foundAt t i ≡ F.At p → p < t .held
 at-below t i p e = subst (λ (x : Found). Told t i x) e (found-told t i) .1

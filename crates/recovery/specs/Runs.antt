@@ -49,9 +49,9 @@ abbrev pub indexIn : RecordBody → ℕ
 indexIn B.Foreign = 0
 indexIn (B.Raft k) = indexOf k
 
--- A count past 64 reads as 64.
+-- A count past 256 reads as 256.
 abbrev pub atMost : ℕ → ℕ
-atMost n = cond (ltb n 64) n 64
+atMost n = cond (ltb n 256) n 256
 
 -- What the code's answers are, with the store that they leave.
 abbrev pub ranOf : ObservedChunk → List ℕ → Ran
@@ -63,7 +63,7 @@ chunkOf d st = record { taken = d .taken; ended = refusalOf (answerOf (d .answer
 abbrev pub stepOf : Observed → List ℕ → Stepped
 stepOf d st = record { answer = answerOf (d .answer); state = d .state; store = st }
 
--- A chunk: the first `count` of 64 records, until the first refusal.
+-- A chunk: the first `count` of 256 records, until the first refusal.
 pub record Runs (s : RecoveredRaftStorage) (st : List ℕ) (rs : List WalRecord) (lent : List ℕ) (d : ObservedChunk) (st′ : List ℕ) : Type 0 where
   pub model : ranOf d st′ ≡ runOf s st rs lent
   -- where state and store are sound: the definition's chunk, and its last answer

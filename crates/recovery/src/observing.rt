@@ -98,21 +98,21 @@ pub struct Observed {
     pub state: RecoveredRaftStorage,
 }
 
-// A count past 64 reads as 64.
+// A count past 256 reads as 256.
 fn at_most(count: usize) -> usize
     ensures { λ r. ⌜ r ≡ atMost count ⌝ }
 {
-    if count < 64 {
+    if count < 256 {
         return count;
     }
-    64
+    256
 }
 
 // The first `count` records, until the first refusal. Soundness is tested once: every step keeps it, but for the count of scanned
 // records, which is tested before each. A replica that is not held has its place opened, and its record is looked at again.
 pub fn observe_records(
     state: RecoveredRaftStorage,
-    records: [WalRecord; 64],
+    records: [WalRecord; 256],
     count: usize,
     lent: &[u8],
     store: &mut [u8],
@@ -127,6 +127,8 @@ pub fn observe_records(
         };
     }
     let n = at_most(count);
+    let heads = state.heads;
+    let mut own = storage::identities(heads);
     let mut t = state;
     let mut answer = Observation::Counted;
     let mut i: usize = 0;
@@ -158,8 +160,7 @@ pub fn observe_records(
             }
             Admission::Raft(next, kind) => {
                 let identity = replay::owner(kind);
-                let heads = t.heads;
-                match storage::find(heads, t.held, identity) {
+                match storage::find(own, t.held, identity) {
                     Found::Missing(p) => {
                         if 8 <= t.held {
                             t.scan = next;
@@ -170,6 +171,8 @@ pub fn observe_records(
                             };
                         }
                         t = placing::open_place(t, store, p, identity);
+                        let heads = t.heads;
+                        own = storage::identities(heads);
                     }
                     Found::At(p) => {
                         let head = t.heads[p];
@@ -204,7 +207,13 @@ pub fn observe_records(
                         i = i + 1;
                         if 0 < change.dropped {
                             let k = change.dropped;
-                            t = placing::entries_down(t, 64 * p, 64 * p + k, after.len);
+                            let len = after.len;
+                            let mut j: usize = 0;
+                            while j < len {
+                                let moved = t.entries[64 * p + k + j];
+                                t.entries[64 * p + j] = moved;
+                                j = j + 1;
+                            }
                         }
                     }
                 }
@@ -227,7 +236,7 @@ pub fn observe_record(
 ) -> Observed
     ensures { λ d. ⌜ Observing state (now (store .entry)) r (now (lent .entry)) d (now (store .exit)) ⌝ }
 {
-    let chunk = observe_records(state, [r; 64], 1, lent, store);
+    let chunk = observe_records(state, [r; 256], 1, lent, store);
     let answer = chunk.answer;
     let next = chunk.state;
     Observed {

@@ -39,26 +39,6 @@ fn entries_up(state: RecoveredRaftStorage, at: usize, from: usize, n: usize) -> 
     t
 }
 
-// The n entries from `from` on, moved down to `at`.
-pub fn entries_down(
-    state: RecoveredRaftStorage,
-    at: usize,
-    from: usize,
-    n: usize,
-) -> RecoveredRaftStorage
-    requires { ⌜ (at ≤ from) × (from + n ≤ 512) ⌝ }
-    ensures { λ r. ⌜ r ≡ withEntries state (splice (state .entries) at (part from n (state .entries))) ⌝ }
-{
-    let mut t = state;
-    let mut j: usize = 0;
-    while j < n {
-        let e = t.entries[from + j];
-        t.entries[at + j] = e;
-        j = j + 1;
-    }
-    t
-}
-
 // A place is opened at p for a replica that is not held: the others from p on move up.
 pub fn open_place(
     state: RecoveredRaftStorage,

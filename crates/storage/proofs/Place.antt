@@ -24,54 +24,75 @@ use Rattle.view.proofs.Tab.{length-tab}
 use Rattle.storage.specs.declared.RecoveredRaftStorage.{RecoveredRaftStorage}
 use Rattle.storage.specs.Model.{noHeader, headAt, scanNext, opened, openedStore}
 use Rattle.storage.specs.Meaning.{heldAt, logAt, meaning, Linked, Step}
-use Rattle.storage.specs.Place.{standsAt, Stands}
+use Rattle.storage.specs.Place.{ownersOf, noOwner, standsAt, Stands}
 use Rattle.storage.proofs.Rank.{not-same-back, else-before, ascending-at, lookup-at, place-at, put-at, put-between, lookup-none, place-none}
 use Rattle.storage.proofs.Walk.{getD-next}
 use Rattle.storage.proofs.Open.{low-head, new-head, open-means}
 
+-- The identity at a place.
+pub owner-at : (hs : List Header) (j : ℕ) → getD (ownersOf hs) j noOwner ≡ getD hs j noHeader .identity
+owner-at [] j = refl
+owner-at (h ∷ hs) zero = refl
+owner-at (h ∷ hs) (suc j) = owner-at hs j
+
+-- A header that keeps its identity leaves them as they are.
+pub owners-set : (hs : List Header) (p : ℕ) (h : Header) → h .identity ≡ getD hs p noHeader .identity → ownersOf (set hs p h) ≡ ownersOf hs
+owners-set [] p h e = refl
+owners-set (x ∷ hs) zero h e = ap (λ (o : RaftReplicaIdentity). o ∷ ownersOf hs) e
+owners-set (x ∷ hs) (suc p) h e = ap (λ (os : List RaftReplicaIdentity). x .identity ∷ os) (owners-set hs p h e)
+
 -- The walk finds the place.
 module _ (i : Identity) where
-  beforeAt : List Header → ℕ → Bool
-  beforeAt hs j = before (idOf (getD hs j noHeader)) i
+  beforeAt : List RaftReplicaIdentity → ℕ → Bool
+  beforeAt os j = before (identityOf (getD os j noOwner)) i
 
-  next-at : (hs : List Header) (j : ℕ) → beforeAt hs (suc j) ≡ beforeAt (drop 1 hs) j
+  next-at : (os : List RaftReplicaIdentity) (j : ℕ) → beforeAt os (suc j) ≡ beforeAt (drop 1 os) j
   unfolding beforeAt
-  next-at hs j = ap (λ (h : Header). before (idOf h) i) (sym (getD-next hs j noHeader))
+  next-at os j = ap (λ (o : RaftReplicaIdentity). before (identityOf o) i) (sym (getD-next os j noOwner))
 
-  walk-low : (n : ℕ) (hs : List Header) (j : ℕ) → j < standsAt i n hs → beforeAt hs j ≡ true
+  walk-low : (n : ℕ) (os : List RaftReplicaIdentity) (j : ℕ) → j < standsAt i n os → beforeAt os j ≡ true
   unfolding standsAt beforeAt
-  walk-low zero hs j l = absurd (omega arith)
-  walk-low (suc n) hs j l = go (beforeAt hs 0) refl j l (walk-low n (drop 1 hs))
+  walk-low zero os j l = absurd (omega arith)
+  walk-low (suc n) os j l = go (beforeAt os 0) refl j l (walk-low n (drop 1 os))
     where
-      go : (b : Bool) → beforeAt hs 0 ≡ b → (j : ℕ) → j < (if b then suc (standsAt i n (drop 1 hs)) else 0)
-          → ((j : ℕ) → j < standsAt i n (drop 1 hs) → beforeAt (drop 1 hs) j ≡ true) → beforeAt hs j ≡ true
+      go : (b : Bool) → beforeAt os 0 ≡ b → (j : ℕ) → j < (if b then suc (standsAt i n (drop 1 os)) else 0)
+          → ((j : ℕ) → j < standsAt i n (drop 1 os) → beforeAt (drop 1 os) j ≡ true) → beforeAt os j ≡ true
       go false e j l r = absurd (omega arith)
       go true e zero l r = e
-      go true e (suc j) l r = next-at hs j ∙ r j (omega arith)
+      go true e (suc j) l r = next-at os j ∙ r j (omega arith)
 
-  walk-within : (n : ℕ) (hs : List Header) → standsAt i n hs ≤ n
+  walk-within : (n : ℕ) (os : List RaftReplicaIdentity) → standsAt i n os ≤ n
   unfolding standsAt beforeAt
-  walk-within zero hs = omega arith
-  walk-within (suc n) hs = go (beforeAt hs 0) (walk-within n (drop 1 hs))
+  walk-within zero os = omega arith
+  walk-within (suc n) os = go (beforeAt os 0) (walk-within n (drop 1 os))
     where
-      go : (b : Bool) → standsAt i n (drop 1 hs) ≤ n → (if b then suc (standsAt i n (drop 1 hs)) else 0) ≤ suc n
+      go : (b : Bool) → standsAt i n (drop 1 os) ≤ n → (if b then suc (standsAt i n (drop 1 os)) else 0) ≤ suc n
       go true r = omega arith
       go false r = omega arith
 
-  walk-stop : (n : ℕ) (hs : List Header) → standsAt i n hs < n → beforeAt hs (standsAt i n hs) ≡ false
+  walk-stop : (n : ℕ) (os : List RaftReplicaIdentity) → standsAt i n os < n → beforeAt os (standsAt i n os) ≡ false
   unfolding standsAt beforeAt
-  walk-stop zero hs l = absurd (omega arith)
-  walk-stop (suc n) hs l = go (beforeAt hs 0) refl l (walk-stop n (drop 1 hs))
+  walk-stop zero os l = absurd (omega arith)
+  walk-stop (suc n) os l = go (beforeAt os 0) refl l (walk-stop n (drop 1 os))
     where
-      go : (b : Bool) → beforeAt hs 0 ≡ b → (if b then suc (standsAt i n (drop 1 hs)) else 0) < suc n
-          → (standsAt i n (drop 1 hs) < n → beforeAt (drop 1 hs) (standsAt i n (drop 1 hs)) ≡ false)
-          → beforeAt hs (if b then suc (standsAt i n (drop 1 hs)) else 0) ≡ false
-      go true e l r = next-at hs (standsAt i n (drop 1 hs)) ∙ r (omega arith)
+      go : (b : Bool) → beforeAt os 0 ≡ b → (if b then suc (standsAt i n (drop 1 os)) else 0) < suc n
+          → (standsAt i n (drop 1 os) < n → beforeAt (drop 1 os) (standsAt i n (drop 1 os)) ≡ false)
+          → beforeAt os (if b then suc (standsAt i n (drop 1 os)) else 0) ≡ false
+      go true e l r = next-at os (standsAt i n (drop 1 os)) ∙ r (omega arith)
       go false e l r = e
 
-  pub stands : (s : RecoveredRaftStorage) → Stands s i (standsAt i (s .held) (s .heads))
+  at-head : (s : RecoveredRaftStorage) (j : ℕ) → before (idOf (headAt s j)) i ≡ beforeAt (ownersOf (s .heads)) j
   unfolding beforeAt
-  stands s = record { low = walk-low (s .held) (s .heads); within = walk-within (s .held) (s .heads); stop = walk-stop (s .held) (s .heads) }
+  at-head s j = ap (λ (o : RaftReplicaIdentity). before (identityOf o) i) (sym (owner-at (s .heads) j))
+
+  pub stands : (s : RecoveredRaftStorage) → Stands s i (standsAt i (s .held) (ownersOf (s .heads)))
+  stands s =
+      let os : List RaftReplicaIdentity = ownersOf (s .heads) in
+      record {
+        low = λ j l. at-head s j ∙ walk-low (s .held) os j l;
+        within = walk-within (s .held) os;
+        stop = λ l. at-head s (standsAt i (s .held) os) ∙ walk-stop (s .held) os l;
+      }
 
 -- There is one such place.
 pub stands-one : (s : RecoveredRaftStorage) (i : Identity) (p q : ℕ) → Stands s i p → Stands s i q → p ≡ q

@@ -12,7 +12,7 @@ use view::MaybeLsn;
 use view::RecoveredRaftLogEntry;
 ghost use mathlib.Core.Path.{_≡_};
 ghost use Rattle.storage.specs.Model.{noHeader, freshStorage};
-ghost use Rattle.storage.specs.Place.{standsAt};
+ghost use Rattle.storage.specs.Place.{ownersOf, standsAt};
 ghost use Rattle.storage.specs.Finding.{foundIn};
 ghost use Rattle.ids.specs.Identity.{identityOf};
 ghost use Prim.Native.Nat.{_≤_};
@@ -98,16 +98,32 @@ pub enum Found {
     Missing(usize),
 }
 
+// The identities of the eight places.
+pub fn identities(heads: [Header; 8]) -> [RaftReplicaIdentity; 8]
+    ensures { λ r. ⌜ r ≡ ownersOf heads ⌝ }
+{
+    let first = heads[0];
+    let filler = first.identity;
+    let mut own = [filler; 8];
+    let mut p: usize = 0;
+    while p < 8 {
+        let head = heads[p];
+        let identity = head.identity;
+        own[p] = identity;
+        p = p + 1;
+    }
+    own
+}
+
 // How many of the held replicas stand before an identity.
-fn stands_at(heads: [Header; 8], held: usize, identity: RaftReplicaIdentity) -> usize
+fn stands_at(own: [RaftReplicaIdentity; 8], held: usize, identity: RaftReplicaIdentity) -> usize
     requires { ⌜ held ≤ 8 ⌝ }
-    ensures { λ r. ⌜ r ≡ standsAt (identityOf identity) held heads ⌝ }
+    ensures { λ r. ⌜ r ≡ standsAt (identityOf identity) held own ⌝ }
 {
     let mut p: usize = 0;
     while p < held {
-        let head = heads[p];
-        let own = head.identity;
-        if !ids::precedes(own, identity) {
+        let at = own[p];
+        if !ids::precedes(at, identity) {
             return p;
         }
         p = p + 1;
@@ -115,18 +131,17 @@ fn stands_at(heads: [Header; 8], held: usize, identity: RaftReplicaIdentity) -> 
     p
 }
 
-// The place of an identity: the first of the held heads that it does not follow.
-pub fn find(heads: [Header; 8], held: usize, identity: RaftReplicaIdentity) -> Found
+// The place of an identity among the held ones: the first of them that it does not follow.
+pub fn find(own: [RaftReplicaIdentity; 8], held: usize, identity: RaftReplicaIdentity) -> Found
     requires { ⌜ held ≤ 8 ⌝ }
-    ensures { λ r. ⌜ r ≡ foundIn heads held (identityOf identity) ⌝ }
+    ensures { λ r. ⌜ r ≡ foundIn own held (identityOf identity) ⌝ }
 {
-    let p = stands_at(heads, held, identity);
+    let p = stands_at(own, held, identity);
     if held <= p {
         return Found::Missing(p);
     }
-    let head = heads[p];
-    let own = head.identity;
-    if ids::same_identity(identity, own) {
+    let at = own[p];
+    if ids::same_identity(identity, at) {
         return Found::At(p);
     }
     Found::Missing(p)

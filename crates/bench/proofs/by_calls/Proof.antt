@@ -8,10 +8,10 @@ use Rattle.bench.proofs.by_calls.Statement.{statement}
 use Rattle.bench.proofs.by_calls.Tie as tie
 
 abbrev Inv-loop2 : tie.InvT-loop2
-Inv-loop2 rounds lent store₀ chunks n sum k t₀ j₀ store t j = (j ≤ 64) × (length store ≡ n)
+Inv-loop2 rounds lent store₀ chunks n sum k t₀ j₀ store t j = (j ≤ 16) × (length store ≡ n)
 
 abbrev μ-loop2 : tie.MeasureT-loop2
-μ-loop2 rounds lent store₀ chunks n sum k t₀ j₀ store t j = 64 - j
+μ-loop2 rounds lent store₀ chunks n sum k t₀ j₀ store t j = 16 - j
 
 abbrev Inv-loop : tie.InvT-loop
 Inv-loop rounds lent store₀ chunks n sum₀ k₀ store sum k = (k ≤ rounds) × (length store ≡ n) × (n ≡ length store₀)

@@ -8,10 +8,10 @@ use Rattle.bench.proofs.make_chunk.Statement.{statement}
 use Rattle.bench.proofs.make_chunk.Tie as tie
 
 abbrev Inv-loop : tie.InvT-loop
-Inv-loop from records₀ r₀ j₀ records r j = j ≤ 64
+Inv-loop from records₀ r₀ j₀ records r j = j ≤ 256
 
 abbrev μ-loop : tie.MeasureT-loop
-μ-loop from records₀ r₀ j₀ records r j = 64 - j
+μ-loop from records₀ r₀ j₀ records r j = 256 - j
 
 loop-holds : tie.Need-loop-holds Inv-loop μ-loop
 loop-holds c = search needs

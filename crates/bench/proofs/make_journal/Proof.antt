@@ -8,10 +8,10 @@ use Rattle.bench.proofs.make_journal.Statement.{statement}
 use Rattle.bench.proofs.make_journal.Tie as tie
 
 abbrev Inv-loop : tie.InvT-loop
-Inv-loop chunks₀ r₀ j₀ chunks r j = j ≤ 64
+Inv-loop chunks₀ r₀ j₀ chunks r j = j ≤ 16
 
 abbrev μ-loop : tie.MeasureT-loop
-μ-loop chunks₀ r₀ j₀ chunks r j = 64 - j
+μ-loop chunks₀ r₀ j₀ chunks r j = 16 - j
 
 loop-holds : tie.Need-loop-holds Inv-loop μ-loop
 loop-holds c = search needs

@@ -8,10 +8,10 @@ use Rattle.bench.proofs.one_by_one.Statement.{statement}
 use Rattle.bench.proofs.one_by_one.Tie as tie
 
 abbrev Inv-loop : tie.InvT-loop
-Inv-loop lent store₀ records s₀ i₀ store s i = (i ≤ 64) × (length store ≡ length store₀)
+Inv-loop lent store₀ records s₀ i₀ store s i = (i ≤ 256) × (length store ≡ length store₀)
 
 abbrev μ-loop : tie.MeasureT-loop
-μ-loop lent store₀ records s₀ i₀ store s i = 64 - i
+μ-loop lent store₀ records s₀ i₀ store s i = 256 - i
 
 loop-holds : tie.Need-loop-holds Inv-loop μ-loop
 loop-holds c = search needs

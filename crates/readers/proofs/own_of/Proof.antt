@@ -2,10 +2,14 @@
 -- Assumes nothing.
 use mathlib.Core.Path.{sym, _∙_}
 use native.Mathlib.Omega.{arith}
+use Rattle.storage.proofs.Finding.{found-among}
 use Rattle.readers.proofs.Owns.{found-held}
 use borrow.Author.Needs.{needs}
 use Rattle.readers.proofs.own_of.Statement.{statement}
 use Rattle.readers.proofs.own_of.Tie as tie
+
+identities-requires : tie.Need-identities-requires
+identities-requires c κs = search needs
 
 find-requires : tie.Need-find-requires
 find-requires c κs = search needs
@@ -20,25 +24,32 @@ new-requires : tie.Need-new-requires
 new-requires c κs = search needs
 
 returns : tie.Need-returns
-returns c = simp (sym (c .before .before .before .find .ensures) ∙ c .before .enum-told .given .1, c .new .ensures)
+returns c =
+    let f = found-among (c .before .before .before .before .before .before .args .t1) _ _ _ (c .before .before .before .before .identities .ensures) (c .before .before .before .find .ensures) in
+    simp (sym f ∙ c .before .enum-told .given .1, c .new .ensures)
 
 mul-head : tie.Need-mul-head
 mul-head c =
-    let k = found-held (c .before .before .before .before .before .args .t1) _ _ (sym (c .before .p .given .1) ∙ c .before .before .before .find .ensures) in
-    omega (arith, k, c .before .before .before .before .before .pre)
+    let f = found-among (c .before .before .before .before .before .before .args .t1) _ _ _ (c .before .before .before .before .identities .ensures) (c .before .before .before .find .ensures) in
+    let k = found-held (c .before .before .before .before .before .before .args .t1) _ _ (sym (c .before .p .given .1) ∙ f) in
+    omega (arith, k, c .before .before .before .before .before .before .pre)
 
 element-copy-out-head : tie.Need-element-copy-out-head
 element-copy-out-head c =
-    let k = found-held (c .before .before .before .before .before .args .t1) _ _ (sym (c .before .p .given .1) ∙ c .before .before .before .find .ensures) in
-    omega (arith, k, c .before .before .before .before .before .pre)
+    let f = found-among (c .before .before .before .before .before .before .args .t1) _ _ _ (c .before .before .before .before .identities .ensures) (c .before .before .before .find .ensures) in
+    let k = found-held (c .before .before .before .before .before .before .args .t1) _ _ (sym (c .before .p .given .1) ∙ f) in
+    omega (arith, k, c .before .before .before .before .before .before .pre)
 
 returns-2 : tie.Need-returns-2
-returns-2 c = simp (sym (c .before .before .before .before .find .ensures) ∙ c .before .before .p .given .1)
+returns-2 c =
+    let f = found-among (c .before .before .before .before .before .before .before .args .t1) _ _ _ (c .before .before .before .before .before .identities .ensures) (c .before .before .before .before .find .ensures) in
+    simp (sym f ∙ c .before .before .p .given .1)
 
 pub own-of-spec : {M : Type 1} → statement M
 own-of-spec =
     tie.close
     (tie.spec
+    identities-requires
     find-requires
     enum-known-p
     enum-told

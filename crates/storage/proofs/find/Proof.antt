@@ -15,12 +15,12 @@ returns : tie.Need-returns
 returns c = is-past _ _ _ _ (c .before .stands-at .ensures) (search needs)
 
 -- src/lib.rt:55:16
-mul-head : tie.Need-mul-head
-mul-head c = search needs
+mul-at : tie.Need-mul-at
+mul-at c = search needs
 
 -- src/lib.rt:55:16
-array-copy-out-head : tie.Need-array-copy-out-head
-array-copy-out-head c = search needs
+array-copy-out-at : tie.Need-array-copy-out-at
+array-copy-out-at c = search needs
 
 -- src/lib.rt:57:8
 same-identity-requires : tie.Need-same-identity-requires
@@ -28,11 +28,11 @@ same-identity-requires c κs = search needs
 
 -- src/lib.rt:58:9
 returns-2 : tie.Need-returns-2
-returns-2 c = is-held _ _ _ _ (c .before .before .before .before .before .stands-at .ensures) (search needs) (sym (c .before .same-identity .ensures) ∙ c .if2 .taken)
+returns-2 c = is-held _ _ _ _ (c .before .before .before .before .stands-at .ensures) (search needs) (sym (c .before .same-identity .ensures) ∙ c .if2 .taken)
 
 -- src/lib.rt:47:1
 returns-3 : tie.Need-returns-3
-returns-3 c = is-missing _ _ _ _ (c .before .before .before .before .before .stands-at .ensures) (search needs) (sym (c .before .same-identity .ensures) ∙ c .if2 .left)
+returns-3 c = is-missing _ _ _ _ (c .before .before .before .before .stands-at .ensures) (search needs) (sym (c .before .same-identity .ensures) ∙ c .if2 .left)
 
 pub find-spec : {M : Type 1} → statement M
 find-spec =
@@ -40,8 +40,8 @@ find-spec =
     (tie.spec
     stands-at-requires
     returns
-    mul-head
-    array-copy-out-head
+    mul-at
+    array-copy-out-at
     same-identity-requires
     returns-2
     returns-3)

@@ -12,22 +12,22 @@ use Rattle.storage.proofs.stands_at.Statement.{statement}
 use Rattle.storage.proofs.stands_at.Tie as tie
 
 abbrev Inv-loop : tie.InvT-loop
-Inv-loop held identity heads p₀ p = (p ≤ held) × (standsAt (identityOf identity) held heads ≡ p + standsAt (identityOf identity) (held - p) (drop p heads))
+Inv-loop held identity own p₀ p = (p ≤ held) × (standsAt (identityOf identity) held own ≡ p + standsAt (identityOf identity) (held - p) (drop p own))
 
 abbrev μ-loop : tie.MeasureT-loop
-μ-loop held identity heads p₀ p = held - p
+μ-loop held identity own p₀ p = held - p
 
 -- src/lib.rt:27:5
 loop-holds : tie.Need-loop-holds Inv-loop μ-loop
 loop-holds c = (search needs, stands-start (identityOf (c .args .identity)) (c .args .held) (c .args .t1))
 
 -- src/lib.rt:28:20
-mul-head : tie.Need-mul-head Inv-loop μ-loop
-mul-head c = search needs
+mul-at : tie.Need-mul-at Inv-loop μ-loop
+mul-at c = search needs
 
 -- src/lib.rt:28:20
-array-copy-out-head : tie.Need-array-copy-out-head Inv-loop μ-loop
-array-copy-out-head c = search needs
+array-copy-out-at : tie.Need-array-copy-out-at Inv-loop μ-loop
+array-copy-out-at c = search needs
 
 -- src/lib.rt:30:13
 precedes-requires : tie.Need-precedes-requires Inv-loop μ-loop
@@ -36,8 +36,8 @@ precedes-requires c κs = search needs
 -- src/lib.rt:31:13
 returns : tie.Need-returns Inv-loop μ-loop
 returns c =
-    let a = c .before .before .before .before .before .before .args in
-    let l = c .before .before .before .before .before .loop in
+    let a = c .before .before .before .before .before .args in
+    let l = c .before .before .before .before .loop in
     sym (l .inv .1 ∙ stands-stop (identityOf (a .identity)) (a .held) (a .t1) (l .p) (search needs) (sym (c .before .precedes .ensures) ∙ not-true _ (c .if1 .taken)))
 
 -- src/lib.rt:33:13
@@ -51,8 +51,8 @@ loop-less c = search needs
 -- src/lib.rt:27:5
 loop-again : tie.Need-loop-again Inv-loop μ-loop
 loop-again c =
-    let a = c .before .before .before .before .before .before .args in
-    let l = c .before .before .before .before .before .loop in
+    let a = c .before .before .before .before .before .args in
+    let l = c .before .before .before .before .loop in
     (search needs, l .inv .1 ∙ stands-turn (identityOf (a .identity)) (a .held) (a .t1) (l .p) (search needs) (sym (c .before .precedes .ensures) ∙ not-false _ (c .if1 .left)))
 
 -- src/lib.rt:22:1
@@ -69,8 +69,8 @@ stands-at-spec =
     Inv-loop
     μ-loop
     loop-holds
-    mul-head
-    array-copy-out-head
+    mul-at
+    array-copy-out-at
     precedes-requires
     returns
     add-p

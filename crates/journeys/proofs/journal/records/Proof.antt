@@ -7,7 +7,7 @@ abbrev Inv-loop : tie.InvT-loop
 Inv-loop case at all₀ i₀ all i = Unit {0}
 
 abbrev μ-loop : tie.MeasureT-loop
-μ-loop case at all₀ i₀ all i = 64 - i
+μ-loop case at all₀ i₀ all i = 256 - i
 
 foreign-requires : tie.Need-foreign-requires Inv-loop μ-loop
 foreign-requires c κs = search needs
