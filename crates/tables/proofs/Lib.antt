@@ -1,0 +1,4 @@
+pub mod Digits
+pub mod Wrote
+pub mod Lines
+pub mod Law
