@@ -24,16 +24,19 @@ unfoldable pub sumTo : ℕ → (ℕ → ℕ) → ℕ
 sumTo zero f = 0
 sumTo (suc n) f = sumTo n f + f n
 
+-- A replica's line, by its header.
 abbrev pub headLine : Header → List ℕ
 headLine h = replicaLine (idOf h) (h .«snapshot_index») (h .«snapshot_term») (maybeHardStateOf (h .«hard_state»))
 
--- The entry at place q of a replica with header h.
+-- The index of entry place q, where place 0 has the index `first`.
 abbrev pub indexAt : ℕ → ℕ → ℕ
 indexAt first q = min (first + q) u64-max
 
+-- The line of e at entry place q of a replica with header h.
 abbrev pub placeLine : Header → RecoveredRaftLogEntry → ℕ → List ℕ
 placeLine h e q = entryLine (idOf h) (indexAt (baseOf h) q) (e .term) (e .lsn .0)
 
+-- How many entries are written of a replica, and how many replicas.
 abbrev pub lenOf : Header → ℕ
 lenOf h = min (h .len) 64
 
@@ -51,6 +54,7 @@ headLines hs held =
     ++ linesTo held (λ p. headLine (getD hs p noHeader))
     ++ countLine entriesWord (sumTo held (λ p. lenOf (getD hs p noHeader)))
 
+-- All that the code writes of a state.
 unfoldable pub tablesOf : RecoveredRaftStorage → List ℕ
 tablesOf s = headLines (s .heads) (heldIn s) ++ linesTo (heldIn s) (logLines s)
 

@@ -16,11 +16,12 @@ abbrev pub digitsOver : (ℕ → List ℕ) → ℕ → Bool → List ℕ
 digitsOver front n true = (48 + n) ∷ []
 digitsOver front n false = front (n / 10) ++ ((48 + n % 10) ∷ [])
 
--- At most k digits stand before the last.
+-- k bounds how many digits stand before the last.
 unfoldable pub digitsWithin : ℕ → ℕ → List ℕ
 digitsWithin zero n = (48 + n) ∷ []
 digitsWithin (suc k) n = digitsOver (digitsWithin k) n (n <? 10)
 
+-- A number in decimal: no more than n digits stand before the last.
 unfoldable pub decimal : ℕ → List ℕ
 decimal n = digitsWithin n n
 
@@ -84,6 +85,7 @@ entryCount (a ∷ l) = count (a .log) + entryCount l
 abbrev pub countLine : List ℕ → ℕ → List ℕ
 countLine word n = row (word ∷ decimal n ∷ [])
 
+-- The tables of a state.
 unfoldable pub tables : State → List ℕ
 tables s =
     countLine replicasWord (length (s .replicas))
