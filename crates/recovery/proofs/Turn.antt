@@ -29,7 +29,6 @@ use Prim.Native.Nat.{ℕ, _+_, _-_, _*_, _<_, _≤_}
 use native.Mathlib.Omega.{arith}
 use native.Mathlib.Nat.{add-sub-cancel-left}
 use borrow.Author.Tests.{le-leb, lt-ltb, le-ltb}
-use lib.Dec.{ltb}
 use lib.ListN.{length, getD, set, take, drop}
 use lib.Seq.{drop-drop}
 use Rattle.definition.specs.Table.{first-of, u64-max}

@@ -4,12 +4,12 @@ use mathlib.Core.Path.{_≡_, refl, sym, ap, _∙_}
 use mathlib.Core.Bool.{Bool, true, false}
 use mathlib.Core.Logic.{⊎-elim, _⊎_, inl, inr}
 use mathlib.Core.List.{List, _++_}
-use Prim.Native.Nat.{ℕ, zero, suc, _+_, _*_, _<_, _≤_}
+use Prim.Native.Nat.{ℕ, suc, _+_, _*_, _<_, _≤_}
 use native.Mathlib.Nat.{add-zero, mul-le-mul-left}
 use native.Mathlib.Omega.{arith}
 use borrow.Author.Tests.{ltb-true, ltb-false, eqb-true, eqb-false}
 use lib.Dec.{ltb, eqb}
-use lib.ListN.{length, getD, set, take, drop, length-append, length-set}
+use lib.ListN.{length, set, take, drop, length-append, length-set}
 use lib.Seq.{drop-at, getD-set-same, getD-set-other, length-take-le}
 use Rattle.definition.specs.Log.{Log}
 use Rattle.definition.specs.Recovery.{Held}
