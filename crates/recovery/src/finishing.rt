@@ -2,7 +2,6 @@
 use ids::Refusal;
 use storage::RecoveredRaftStorage;
 ghost use mathlib.Core.Path.{_≡_};
-ghost use Prim.Native.Nat.{max};
 ghost use Rattle.storage.specs.Model.{finishedStorage};
 ghost use Rattle.soundness.specs.Sound.{Limits};
 ghost use Rattle.recovery.specs.Finishes.{Finishes};
@@ -19,16 +18,6 @@ pub struct Finished {
     pub state: RecoveredRaftStorage,
 }
 
-// The larger of two terms.
-fn larger(a: u64, b: u64) -> u64
-    ensures { λ r. ⌜ r ≡ max a b ⌝ }
-{
-    if a < b {
-        return b;
-    }
-    a
-}
-
 // Every held replica is finished: m is the largest of its boundary's term and its entries' terms.
 fn finish_all(state: RecoveredRaftStorage) -> RecoveredRaftStorage
     requires { ⌜ Limits state ⌝ }
@@ -42,7 +31,7 @@ fn finish_all(state: RecoveredRaftStorage) -> RecoveredRaftStorage
         let mut q: usize = 0;
         while q < head.len {
             let e = t.entries[64 * j + q];
-            m = larger(m, e.term);
+            m = view::larger(m, e.term);
             q = q + 1;
         }
         let next = head.normalize_hard_state_term(m);

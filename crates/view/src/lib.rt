@@ -479,7 +479,7 @@ pub fn decide_pointer(h: Header, p: RaftSnapshotPointerRecord, held: MaybeTerm) 
 }
 
 // The larger of two numbers.
-fn larger(a: u64, b: u64) -> u64
+pub fn larger(a: u64, b: u64) -> u64
     ensures { λ r. ⌜ r ≡ max a b ⌝ }
 {
     if a < b {
