@@ -1,0 +1,133 @@
+-- `journal::observe_all` reads and writes inside its buffers, and ends.
+-- Assumes nothing.
+use mathlib.Core.Path.{_≡_, refl}
+use Prim.Native.Nat.{_-_, _≤_}
+use native.Mathlib.Omega.{arith}
+use borrow.Author.Needs.{needs}
+use lib.ListN.{length}
+use Rattle.recover.proofs.journal.observe_all.Statement.{statement}
+use Rattle.recover.proofs.journal.observe_all.Tie as tie
+
+abbrev Inv-loop : tie.InvT-loop
+Inv-loop buffer₀ most commands lent lens store₀ t₀ w₀ done₀ buffer store t w done = (done ≤ most) × (length buffer ≡ length buffer₀) × (length store ≡ length store₀)
+
+abbrev μ-loop : tie.MeasureT-loop
+μ-loop buffer₀ most commands lent lens store₀ t₀ w₀ done₀ buffer store t w done = most - done
+
+fresh-requires : tie.Need-fresh-requires Inv-loop μ-loop
+fresh-requires c κs = search needs
+
+loop-holds : tie.Need-loop-holds Inv-loop μ-loop
+loop-holds c = (search needs, refl, refl)
+
+sub-read-chunk : tie.Need-sub-read-chunk Inv-loop μ-loop
+sub-read-chunk c = search needs
+
+read-chunk-requires : tie.Need-read-chunk-requires Inv-loop μ-loop
+read-chunk-requires c κs = search needs
+
+observe-records-requires : tie.Need-observe-records-requires Inv-loop μ-loop
+observe-records-requires c κs = search needs
+
+enum-known-answer : tie.Need-enum-known-answer Inv-loop μ-loop
+enum-known-answer c = search needs
+
+lsn-at-requires : tie.Need-lsn-at-requires Inv-loop μ-loop
+lsn-at-requires c κs = search needs
+
+number-requires : tie.Need-number-requires Inv-loop μ-loop
+number-requires c κs = search needs
+
+same-length : tie.Need-same-length Inv-loop μ-loop
+same-length c = search needs
+
+same-length-2 : tie.Need-same-length-2 Inv-loop μ-loop
+same-length-2 c = search needs
+
+returns : tie.Need-returns Inv-loop μ-loop
+returns c = tt
+
+add-line-behind : tie.Need-add-line-behind Inv-loop μ-loop
+add-line-behind c = record { fits = omega (arith, c .before .before .before .before .before .before .before .before .before .before .before .before .read-chunk .ensures .0, c .before .before .before .before .before .before .before .before .before .before .before .before .before .before .loop-test .taken, c .before .before .before .before .before .before .before .before .before .before .before .before .before .before .before .before .before .before .before .before .before .fits .most) }
+
+line-behind-requires : tie.Need-line-behind-requires Inv-loop μ-loop
+line-behind-requires c κs = search needs
+
+same-length-3 : tie.Need-same-length-3 Inv-loop μ-loop
+same-length-3 c = search needs
+
+same-length-4 : tie.Need-same-length-4 Inv-loop μ-loop
+same-length-4 c = search needs
+
+returns-2 : tie.Need-returns-2 Inv-loop μ-loop
+returns-2 c = tt
+
+add-done : tie.Need-add-done Inv-loop μ-loop
+add-done c = record { fits = omega (arith, c .before .before .before .before .before .before .before .before .before .before .before .before .read-chunk .ensures .0, c .before .before .before .before .before .before .before .before .before .before .before .before .before .before .loop-test .taken, c .before .before .before .before .before .before .before .before .before .before .before .before .before .before .before .before .before .before .before .before .before .fits .most) }
+
+loop-less : tie.Need-loop-less Inv-loop μ-loop
+loop-less c =
+    let read-chunk = c .before .before .before .before .before .before .before .before .before .before .before .before .read-chunk in
+    let loop-test = c .before .before .before .before .before .before .before .before .before .before .before .before .before .before .loop-test in
+    omega (arith, read-chunk .ensures .0, read-chunk .ensures .1 (c .before .if1 .left) (omega (arith, loop-test .taken)), loop-test .taken)
+
+loop-again : tie.Need-loop-again Inv-loop μ-loop
+loop-again c = (omega (arith, c .before .before .before .before .before .before .before .before .before .before .before .before .read-chunk .ensures .0, c .before .before .before .before .before .before .before .before .before .before .before .before .before .before .loop-test .taken), search needs, search needs)
+
+next-line-requires : tie.Need-next-line-requires Inv-loop μ-loop
+next-line-requires c κs = search needs
+
+line-behind-requires-2 : tie.Need-line-behind-requires-2 Inv-loop μ-loop
+line-behind-requires-2 c κs = search needs
+
+same-length-5 : tie.Need-same-length-5 Inv-loop μ-loop
+same-length-5 c = search needs
+
+same-length-6 : tie.Need-same-length-6 Inv-loop μ-loop
+same-length-6 c = search needs
+
+returns-3 : tie.Need-returns-3 Inv-loop μ-loop
+returns-3 c = tt
+
+same-length-7 : tie.Need-same-length-7 Inv-loop μ-loop
+same-length-7 c = search needs
+
+same-length-8 : tie.Need-same-length-8 Inv-loop μ-loop
+same-length-8 c = search needs
+
+returns-4 : tie.Need-returns-4 Inv-loop μ-loop
+returns-4 c = tt
+
+pub observe-all-spec : {M : Type 1} → statement M
+observe-all-spec =
+    tie.close
+    (tie.spec
+    Inv-loop
+    μ-loop
+    fresh-requires
+    loop-holds
+    sub-read-chunk
+    read-chunk-requires
+    observe-records-requires
+    enum-known-answer
+    lsn-at-requires
+    number-requires
+    same-length
+    same-length-2
+    returns
+    add-line-behind
+    line-behind-requires
+    same-length-3
+    same-length-4
+    returns-2
+    add-done
+    loop-less
+    loop-again
+    next-line-requires
+    line-behind-requires-2
+    same-length-5
+    same-length-6
+    returns-3
+    same-length-7
+    same-length-8
+    returns-4)

@@ -1,0 +1,259 @@
+// A journal from its first line to its end, or to the first line that is refused or cannot be read.
+use crate::input;
+use crate::input::Taken;
+use crate::input::Window;
+use codec::RecordBody;
+use codec::WalRecord;
+use ids::Lsn;
+use recovery::observing;
+use replay::Observation;
+use storage::RecoveredRaftStorage;
+use text::command::MaybeLen;
+use text::record;
+use text::record::MaybeCount;
+use text::record::MaybeRecord;
+ghost use mathlib.Core.Path.{_≡_};
+ghost use mathlib.Core.Bool.{false};
+ghost use Prim.Native.Nat.{_≤_, _<_};
+
+// Why reading stopped: at a line that cannot be read, at a refused record, or at the end.
+pub enum Stop {
+    None,
+    Malformed(u64),
+    Refused { lsn: u64, number: u64 },
+}
+
+pub struct Ended {
+    pub stop: Stop,
+    pub state: RecoveredRaftStorage,
+}
+
+// How many command lines were read, up to one that cannot be, and what is left of the input.
+struct Commands {
+    read: usize,
+    window: Window,
+}
+
+// Up to 256 records, whether the line behind them cannot be read, and what is left of the input.
+struct Chunk {
+    records: [WalRecord; 256],
+    count: usize,
+    bad: bool,
+    window: Window,
+}
+
+fn stopped(stop: Stop) -> Ended {
+    let state = RecoveredRaftStorage::fresh();
+    Ended {
+        stop: stop,
+        state: state,
+    }
+}
+
+// No more than 256: of commands, and of the records of a chunk.
+fn share(most: usize) -> usize
+    ensures { λ r. ⌜ (r ≤ most) × (r ≤ 256) × (0 < most → 0 < r) ⌝ }
+{
+    if most < 256 {
+        return most;
+    }
+    256
+}
+
+// n command lines: their bytes go to `lent`, 65 for each, their lengths to `lens`.
+fn read_commands(
+    buffer: &mut [u8],
+    window: Window,
+    n: usize,
+    lent: &mut [u8],
+    lens: &mut [u8],
+) -> Commands {
+    let most = share(n);
+    let mut w = window;
+    let mut i: usize = 0;
+    while i < most {
+        if lens.len() <= i {
+            break;
+        }
+        let taken = input::next_command(buffer, w, lent, 65 * i);
+        w = taken.window;
+        let read = taken.len;
+        let MaybeLen::Some(len) = read else {
+            break;
+        };
+        lens[i] = (len % 256) as u8;
+        i = i + 1;
+    }
+    Commands { read: i, window: w }
+}
+
+fn record_in(taken: Taken, commands: usize, lens: &[u8]) -> MaybeRecord {
+    if !taken.found {
+        return MaybeRecord::None;
+    }
+    let line = taken.line;
+    record::record_of(line, commands, lens)
+}
+
+// The next records, at most 256 and at most `most`, up to a line that is missing or cannot be read.
+fn read_chunk(buffer: &mut [u8], window: Window, most: usize, commands: usize, lens: &[u8]) -> Chunk
+    ensures { λ r. ⌜ (r .count ≤ most) × (r .bad ≡ false → 0 < most → 0 < r .count) ⌝ }
+{
+    let blank = WalRecord {
+        lsn: Lsn::ZERO,
+        body: RecordBody::Foreign,
+    };
+    let mut records = [blank; 256];
+    let mut w = window;
+    let n = share(most);
+    let mut i: usize = 0;
+    while i < n {
+        let taken = input::next_line(buffer, w);
+        w = taken.window;
+        let MaybeRecord::Some(r) = record_in(taken, commands, lens) else {
+            return Chunk {
+                records: records,
+                count: i,
+                bad: true,
+                window: w,
+            };
+        };
+        records[i] = r;
+        i = i + 1;
+    }
+    Chunk {
+        records: records,
+        count: i,
+        bad: false,
+        window: w,
+    }
+}
+
+// The LSN of a record of the chunk.
+fn lsn_at(records: [WalRecord; 256], i: usize) -> u64 {
+    if 256 <= i {
+        return 0;
+    }
+    let r = records[i];
+    r.lsn.0
+}
+
+// The number of the line behind so many headers, commands and records.
+fn line_behind(headers: u64, commands: usize, records: usize) -> u64 {
+    let lines = std::num::wrapping_add_u64(commands as u64, records as u64);
+    std::num::wrapping_add_u64(std::num::wrapping_add_u64(headers, lines), 1)
+}
+
+// `most` records; a line behind theirs is one too many.
+fn observe_all(
+    buffer: &mut [u8],
+    window: Window,
+    most: usize,
+    commands: usize,
+    lent: &[u8],
+    lens: &[u8],
+    store: &mut [u8],
+) -> Ended {
+    let mut t = RecoveredRaftStorage::fresh();
+    let mut w = window;
+    let mut done: usize = 0;
+    while done < most {
+        let chunk = read_chunk(buffer, w, most - done, commands, lens);
+        w = chunk.window;
+        let records = chunk.records;
+        let d = observing::observe_records(t, records, chunk.count, lent, store);
+        let answer = d.answer;
+        t = d.state;
+        if let Observation::Refused(why) = answer {
+            let stop = Stop::Refused {
+                lsn: lsn_at(records, d.taken),
+                number: why.number(),
+            };
+            return Ended {
+                stop: stop,
+                state: t,
+            };
+        }
+        if chunk.bad {
+            let stop = Stop::Malformed(line_behind(2, commands, done + chunk.count));
+            return Ended {
+                stop: stop,
+                state: t,
+            };
+        }
+        done = done + chunk.count;
+    }
+    let behind = input::next_line(buffer, w);
+    if behind.found {
+        let stop = Stop::Malformed(line_behind(2, commands, most));
+        return Ended {
+            stop: stop,
+            state: t,
+        };
+    }
+    Ended {
+        stop: Stop::None,
+        state: t,
+    }
+}
+
+// The number of a header's line.
+fn commands_in(taken: Taken) -> MaybeCount {
+    if !taken.found {
+        return MaybeCount::None;
+    }
+    let line = taken.line;
+    record::commands_of(line)
+}
+
+fn records_in(taken: Taken) -> MaybeCount {
+    if !taken.found {
+        return MaybeCount::None;
+    }
+    let line = taken.line;
+    record::records_of(line)
+}
+
+// Behind the command lines.
+fn recover_records(
+    buffer: &mut [u8],
+    window: Window,
+    commands: usize,
+    lent: &[u8],
+    lens: &[u8],
+    store: &mut [u8],
+) -> Ended {
+    let taken = input::next_line(buffer, window);
+    let w = taken.window;
+    let MaybeCount::Some(n) = records_in(taken) else {
+        return stopped(Stop::Malformed(line_behind(1, commands, 0)));
+    };
+    observe_all(buffer, w, n as usize, commands, lent, lens, store)
+}
+
+// Behind the first line: n commands, then the records.
+fn recover_commands(
+    buffer: &mut [u8],
+    window: Window,
+    n: usize,
+    lent: &mut [u8],
+    lens: &mut [u8],
+    store: &mut [u8],
+) -> Ended {
+    let commands = read_commands(buffer, window, n, lent, lens);
+    let left = commands.window;
+    if commands.read < n {
+        return stopped(Stop::Malformed(line_behind(1, commands.read, 0)));
+    }
+    recover_records(buffer, left, n, &lent[..], &lens[..], store)
+}
+
+// A whole journal.
+pub fn recover(buffer: &mut [u8], lent: &mut [u8], lens: &mut [u8], store: &mut [u8]) -> Ended {
+    let taken = input::next_line(buffer, input::start());
+    let w = taken.window;
+    let MaybeCount::Some(n) = commands_in(taken) else {
+        return stopped(Stop::Malformed(line_behind(0, 0, 0)));
+    };
+    recover_commands(buffer, w, n as usize, lent, lens, store)
+}

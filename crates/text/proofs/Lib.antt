@@ -1,0 +1,11 @@
+pub mod Commands
+pub mod Given
+pub mod Headers
+pub mod Hex
+pub mod Lines
+pub mod Numbers
+pub mod Records
+pub mod Scan
+pub mod Sums
+pub mod Whole
+pub mod Words

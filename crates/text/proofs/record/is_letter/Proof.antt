@@ -1,0 +1,14 @@
+-- `text::record::is_letter` meets its contract.
+-- Assumes nothing.
+use borrow.Author.Tests.{eq-eqb, ne-eqb}
+use Rattle.text.proofs.record.is_letter.Statement.{statement}
+use Rattle.text.proofs.record.is_letter.Tie as tie
+
+returns : tie.Need-returns
+returns c = simp (ne-eqb _ _ (c .if1 .taken))
+
+returns-2 : tie.Need-returns-2
+returns-2 c = simp (eq-eqb _ _ (c .before .if1 .left))
+
+pub is-letter-spec : {M : Type 1} → statement M
+is-letter-spec = tie.close (tie.spec returns returns-2)
