@@ -51,4 +51,5 @@ def main():
         print(f'{statistics.median(times):8.0f} ns a record   {statistics.median(times) / base:6.2f}   {name}')
 
 
-main()
+if __name__ == "__main__":
+    main()
