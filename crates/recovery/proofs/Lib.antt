@@ -1,6 +1,5 @@
 pub mod Chunking
 pub mod Finishes
-pub mod Moves
 pub mod Observe
 pub mod One
 pub mod Program
@@ -11,4 +10,3 @@ pub mod Running
 pub mod Scanned
 pub mod Stepped
 pub mod Turn
-pub mod Written

@@ -1,5 +1,4 @@
 pub mod Finishes
-pub mod Moves
 pub mod Observe
 pub mod Program
 pub mod Runs

@@ -1,5 +1,4 @@
 // Observing: records of a journal, one or a chunk of them, each decided on small values and written in place.
-use crate::placing;
 use codec::RaftWalRecord;
 use codec::RecordBody;
 use codec::WalRecord;

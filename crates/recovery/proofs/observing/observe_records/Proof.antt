@@ -11,7 +11,7 @@ use Rattle.replay.specs.Plan.{answerOf}
 use Rattle.storage.specs.declared.RecoveredRaftStorage.{RecoveredRaftStorage}
 use Rattle.storage.specs.Model.{headAt}
 use Rattle.storage.specs.Place.{ownersOf}
-use Rattle.recovery.proofs.Moves.{entriesDown, down-none, entries-down-turn}
+use Rattle.placing.proofs.Moves.{entriesDown, down-none, entries-down-turn}
 use Rattle.recovery.proofs.Chunking.{Chunking, noRecord, most-is, chunk-size, chunk-at, runs-most, index-fits, chunk-start, chunk-end, chunk-takes, chunk-refused, chunk-opened, at-take, taken-length}
 use Rattle.recovery.proofs.Running.{runs-unsound}
 use Rattle.recovery.proofs.Stepped.{stepped-stale, stepped-foreign, stepped-malformed, stepped-full, stepped-held}

@@ -1,4 +1,4 @@
-// The rare moves in the arrays of a state: a place opened for a replica, and entries moved down in its block.
+// A place is opened for a replica that is not held: in the arrays of a state and in its store.
 use ids::RaftReplicaIdentity;
 use storage::RecoveredRaftStorage;
 use view::Header;
@@ -7,7 +7,7 @@ ghost use Prim.Native.Nat.{_+_, _*_, _≤_};
 ghost use Rattle.store.specs.Splice.{part, splice};
 ghost use Rattle.view.specs.Model.{emptyHeader};
 ghost use Rattle.storage.specs.Model.{opened, openedStore};
-ghost use Rattle.recovery.specs.Moves.{withHeads, withEntries, Opens};
+ghost use Rattle.placing.specs.Moves.{withHeads, withEntries, Opens};
 
 // The n headers from p on, moved up by one.
 fn heads_up(state: RecoveredRaftStorage, p: usize, n: usize) -> RecoveredRaftStorage

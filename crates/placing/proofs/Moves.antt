@@ -11,7 +11,7 @@ use Rattle.store.proofs.Run.{turn-up, turn-down}
 use Rattle.view.specs.Meaning.{noEntry}
 use Rattle.storage.specs.declared.RecoveredRaftStorage.{RecoveredRaftStorage}
 use Rattle.storage.specs.Model.{noHeader}
-use Rattle.recovery.specs.Moves.{withHeads, withEntries}
+use Rattle.placing.specs.Moves.{withHeads, withEntries}
 
 -- Upwards, those from j on are moved.
 module _ {A : Type 0} (d : List A) (at from n : ℕ) where

@@ -12,7 +12,7 @@ use Rattle.view.specs.declared.Header.{Header}
 use Rattle.view.specs.Model.{emptyHeader}
 use Rattle.storage.specs.declared.RecoveredRaftStorage.{RecoveredRaftStorage}
 use Rattle.storage.specs.Model.{opened}
-use Rattle.recovery.specs.Moves.{withHeads, withEntries, Opens}
+use Rattle.placing.specs.Moves.{withHeads, withEntries, Opens}
 
 -- The entries were moved, then the headers, then the new one was put.
 module _ (s : RecoveredRaftStorage) (st : List ℕ) (p : ℕ) (i : RaftReplicaIdentity) (k : Opens s st p) where
