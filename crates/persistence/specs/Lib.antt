@@ -1,2 +1,4 @@
 pub mod Checks
 pub mod Meaning
+pub mod Preview
+pub mod Extends

@@ -6,6 +6,7 @@ pub mod batch;
 pub mod entry;
 pub mod hard_state;
 pub mod pointer;
+pub mod preview;
 
 // The most entries that a batch may have.
 pub const MAX_BATCH_ENTRIES: usize = 32;

@@ -55,20 +55,20 @@ dropped-none : (es : List RecoveredRaftLogEntry) (n : ℕ) → n ≤ length es �
 dropped-none es n h = rw (sub-zero n) (splice-self es 0 n (omega arith))
 
 -- No row refuses what is answered otherwise, and a refusal is a row's.
-passed : (o : Option ℕ) (a b : D.Answer) → refusing b ≡ false → answered o a ≡ b → o ≡ none
+pub passed : (o : Option ℕ) (a b : D.Answer) → refusing b ≡ false → answered o a ≡ b → o ≡ none
 passed none a b z e = refl
 passed (some n) a b z e = absurd (true≢false (ap refusing e ∙ z))
 
-refusal : (o : Option ℕ) (a : D.Answer) (n : ℕ) → refusing a ≡ false → answered o a ≡ D.refused n → o ≡ some n
+pub refusal : (o : Option ℕ) (a : D.Answer) (n : ℕ) → refusing a ≡ false → answered o a ≡ D.refused n → o ≡ some n
 refusal none a n z e = absurd (true≢false (sym (ap refusing e) ∙ z))
 refusal (some m) a n z e = let q : m ≡ n = cc in ap some q
 
-same-answer : (o : Option ℕ) (a b : D.Answer) → refusing b ≡ false → answered o a ≡ b → a ≡ b
+pub same-answer : (o : Option ℕ) (a b : D.Answer) → refusing b ≡ false → answered o a ≡ b → a ≡ b
 same-answer none a b z e = e
 same-answer (some n) a b z e = absurd (true≢false (ap refusing e ∙ z))
 
 -- What an accepted entry is answered.
-abbrev isAppended : D.Answer → Bool
+abbrev pub isAppended : D.Answer → Bool
 isAppended D.counted = false
 isAppended D.appended = true
 isAppended D.idempotentReplay = false
@@ -77,7 +77,7 @@ isAppended D.finished = false
 isAppended (D.replacedSuffix r) = false
 isAppended (D.refused n) = false
 
-abbrev isReplayed : D.Answer → Bool
+abbrev pub isReplayed : D.Answer → Bool
 isReplayed D.counted = false
 isReplayed D.appended = true
 isReplayed D.idempotentReplay = true
@@ -86,7 +86,7 @@ isReplayed D.finished = false
 isReplayed (D.replacedSuffix r) = true
 isReplayed (D.refused n) = true
 
-accepted-replayed : (h : Header) (x : Existing) (index term : ℕ) → (refusing (acceptedAs h x index term) ≡ false) × (isReplayed (acceptedAs h x index term) ≡ true)
+pub accepted-replayed : (h : Header) (x : Existing) (index term : ℕ) → (refusing (acceptedAs h x index term) ≡ false) × (isReplayed (acceptedAs h x index term) ≡ true)
 accepted-replayed h X.None index term = (refl, refl)
 accepted-replayed h (X.Some old same) index term = go (old =? term)
   where
@@ -95,7 +95,7 @@ accepted-replayed h (X.Some old same) index term = go (old =? term)
     go true = (refl, refl)
     go false = (refl, refl)
 
-answered-replayed : (o : Option ℕ) (a : D.Answer) → isReplayed a ≡ true → isReplayed (answered o a) ≡ true
+pub answered-replayed : (o : Option ℕ) (a : D.Answer) → isReplayed a ≡ true → isReplayed (answered o a) ≡ true
 answered-replayed none a e = e
 answered-replayed (some n) a e = refl
 

@@ -100,7 +100,7 @@ pub fn look_before(head: Header, index: u64) -> usize
 }
 
 // What is held at a record's index, where e stands at the place looked at.
-fn existing(
+pub fn existing(
     head: Header,
     e: RecoveredRaftLogEntry,
     r: RaftLogEntryRecord,
@@ -117,7 +117,7 @@ fn existing(
 }
 
 // The term before an index: the entry's or, where none is held, the boundary's.
-fn prior_term(head: Header, before: RecoveredRaftLogEntry, index: u64) -> u64
+pub fn prior_term(head: Header, before: RecoveredRaftLogEntry, index: u64) -> u64
     ensures { λ r. ⌜ r ≡ priorIn (placeOf head (index - 1)) (head .«snapshot_term») (before .term) ⌝ }
 {
     let Place::Held(_) = head.predecessor_place(index) else {
@@ -149,7 +149,7 @@ fn renewed(e: RecoveredRaftLogEntry, lsn: Lsn) -> RecoveredRaftLogEntry
 }
 
 // An entry that is decided.
-fn write_entry(
+pub fn write_entry(
     head: Header,
     e: RecoveredRaftLogEntry,
     r: RaftLogEntryRecord,
