@@ -25,10 +25,10 @@ use Rattle.persistence.proofs.Entries.{record-means, entries-count, ent
 use Rattle.persistence.proofs.Supplied.{entry-next, entry-refuses}
 
 -- Refused by the first row, else what follows.
-refused-by : (rows : List Row) (v : M.Preview) (go : M.Preview → Result M.Preview) (n : ℕ) → first-of rows ≡ some n → M.previewed rows v go ≡ refusal n
+pub refused-by : (rows : List Row) (v : M.Preview) (go : M.Preview → Result M.Preview) (n : ℕ) → first-of rows ≡ some n → M.previewed rows v go ≡ refusal n
 refused-by rows v go n w = rw (w, M.previewed)
 
-passed-by : (rows : List Row) (v : M.Preview) (go : M.Preview → Result M.Preview) → first-of rows ≡ none → M.previewed rows v go ≡ go v
+pub passed-by : (rows : List Row) (v : M.Preview) (go : M.Preview → Result M.Preview) → first-of rows ≡ none → M.previewed rows v go ≡ go v
 passed-by rows v go w = rw (w, M.previewed)
 
 module _ (i : Identity) (batch : M.Batch) (was : D.Log ℕ) where

@@ -6,3 +6,6 @@ pub mod Supplied
 pub mod Extended
 pub mod Taken
 pub mod Running
+pub mod Moved
+pub mod Prepared
+pub mod Pointed

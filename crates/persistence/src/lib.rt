@@ -6,6 +6,7 @@ pub mod batch;
 pub mod entry;
 pub mod hard_state;
 pub mod pointer;
+pub mod prepare;
 pub mod preview;
 
 // The most entries that a batch may have.
