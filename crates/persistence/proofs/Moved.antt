@@ -13,7 +13,7 @@ use Rattle.view.specs.declared.Header.{Header}
 use Rattle.view.specs.declared.RecoveredRaftLogEntry.{RecoveredRaftLogEntry}
 use Rattle.view.specs.Meaning.{noEntry}
 use Rattle.view.specs.Model.{largestOf, maximumTerm}
-use Rattle.persistence.specs.declared.preview.Preview.{Preview}
+use Rattle.preview.specs.declared.Preview.{Preview}
 use Rattle.persistence.specs.Prepare.{movedDown}
 
 -- The first j of the entries from place k on stand at the front.

@@ -30,17 +30,17 @@ use Rattle.view.specs.Decisions.{successorRowsOf, installRowsOf}
 use Rattle.view.specs.Meaning.{viewOf}
 use Rattle.view.specs.Model.{withPointer, coveredBy, maximumTerm, droppedBytes}
 use Rattle.view.specs.Readers.{lastOf}
-use Rattle.persistence.specs.declared.RaftPersistenceBatch.{RaftPersistenceBatch}
-use Rattle.persistence.specs.declared.preview.Extended.{Extended}
-use Rattle.persistence.specs.declared.preview.Prepared.{Prepared}
-use Rattle.persistence.specs.declared.preview.Prepared.the-variants as P
-use Rattle.persistence.specs.declared.preview.Preview.{Preview}
-use Rattle.persistence.specs.Checks.{lsnExhausted, pointerFormRows, placedRows, pointerRows, hardStateRows, termRows}
-use Rattle.persistence.specs.Meaning.{entriesOf, batchOf}
-use Rattle.persistence.specs.Preview.{preparedOf, Ran, ranOf, ran, formedBy, onward, extendFrom, Sits}
+use Rattle.batches.specs.declared.RaftPersistenceBatch.{RaftPersistenceBatch}
+use Rattle.preview.specs.declared.Extended.{Extended}
+use Rattle.preview.specs.declared.Prepared.{Prepared}
+use Rattle.preview.specs.declared.Prepared.the-variants as P
+use Rattle.preview.specs.declared.Preview.{Preview}
+use Rattle.batches.specs.Checks.{lsnExhausted, pointerFormRows, placedRows, pointerRows, hardStateRows, termRows}
+use Rattle.batches.specs.Meaning.{entriesOf, batchOf}
+use Rattle.preview.specs.Preview.{preparedOf, Ran, ranOf, ran, formedBy, onward, extendFrom, Sits}
 use Rattle.persistence.specs.Prepare.{heldAt, movedDown, pointedWith, pointRan, hardHeader, hardenedWith, hardenRan, concludeRan, pointIn, hardenIn, followed, lastlyRan, entriesRan, pointedRan, prepareRan}
 use Rattle.persistence.specs.Prepares.{Stands}
-use Rattle.persistence.proofs.Entries.{entries-count}
+use Rattle.batches.proofs.Entries.{entries-count}
 use Rattle.persistence.proofs.Prepared.{point-next}
 
 -- The pointer.

@@ -35,16 +35,16 @@ use Rattle.view.proofs.Head.{hard-view}
 use Rattle.view.proofs.Told.{term-at-is}
 use Rattle.replay.specs.Plan.{lookOf, heldTermIn}
 use Rattle.replay.proofs.Settled.{look-held}
-use Rattle.persistence.specs.declared.RaftPersistenceBatch.{RaftPersistenceBatch}
-use Rattle.persistence.specs.declared.preview.Preview.{Preview}
-use Rattle.persistence.specs.Checks.{pointerRows, hardStateRows, termRows}
-use Rattle.persistence.specs.Meaning.{entriesOf, batchOf}
-use Rattle.persistence.specs.Preview.{Ran, ran, formedBy, onward, extendFrom, Sits}
-use Rattle.persistence.specs.Extends.{recordsOf, Ends, Extends}
+use Rattle.batches.specs.declared.RaftPersistenceBatch.{RaftPersistenceBatch}
+use Rattle.preview.specs.declared.Preview.{Preview}
+use Rattle.batches.specs.Checks.{pointerRows, hardStateRows, termRows}
+use Rattle.batches.specs.Meaning.{entriesOf, batchOf}
+use Rattle.preview.specs.Preview.{Ran, ran, formedBy, onward, extendFrom, Sits}
+use Rattle.preview.specs.Extends.{recordsOf, Ends, Extends}
 use Rattle.persistence.specs.Prepare.{heldAt, pointedWith, pointRan, hardenedWith, hardenRan, concludeRan, pointIn, hardenIn, followed, lastlyRan, entriesRan, pointedRan, beginning, prepareRan}
 use Rattle.persistence.specs.Prepares.{Stands, Steps, pointerRecords, hardStateRecords, batchRecords, Prepares}
-use Rattle.persistence.proofs.Rows.{pointer-rows, hard-state-means, term-means}
-use Rattle.persistence.proofs.Extended.{refused-by, passed-by, all-extend}
+use Rattle.batches.proofs.Rows.{pointer-rows, hard-state-means, term-means}
+use Rattle.preview.proofs.Extending.{refused-by, passed-by, all-extend}
 
 formed-is : (o : Option ℕ) (p : Preview) (cs : List ℕ) (q : Preview) (ds : List ℕ) → formedBy o p cs (ran none q ds) .refused ≡ o
 formed-is none p cs q ds = refl

@@ -22,11 +22,11 @@ use Rattle.view.specs.Meaning.{noEntry, lsnOf, viewOf}
 use Rattle.view.specs.Model.{withHard, withPointer, coveredBy, maximumTerm, droppedEntries, droppedBytes}
 use Rattle.view.specs.Readers.{lastOf, placeOf}
 use Rattle.replay.specs.Plan.{lookOf, heldTermIn}
-use Rattle.persistence.specs.declared.RaftPersistenceBatch.{RaftPersistenceBatch}
-use Rattle.persistence.specs.declared.preview.Preview.{Preview}
-use Rattle.persistence.specs.Checks.{pointerRows, hardStateRows, termRows}
-use Rattle.persistence.specs.Meaning.{batchOf}
-use Rattle.persistence.specs.Preview.{Ran, ran, formedBy, onward, extendFrom}
+use Rattle.batches.specs.declared.RaftPersistenceBatch.{RaftPersistenceBatch}
+use Rattle.preview.specs.declared.Preview.{Preview}
+use Rattle.batches.specs.Checks.{pointerRows, hardStateRows, termRows}
+use Rattle.batches.specs.Meaning.{batchOf}
+use Rattle.preview.specs.Preview.{Ran, ran, formedBy, onward, extendFrom}
 
 -- The term of the entry that a preview holds at an index.
 abbrev pub heldAt : Preview → ℕ → MaybeTerm

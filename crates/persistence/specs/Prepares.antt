@@ -9,8 +9,8 @@ use Rattle.definition.specs.Records.{Identity, HardState, hardState, pointer}
 use Rattle.definition.specs.Log.{PointerRecord}
 use Rattle.definition.specs.Batch as M
 use Rattle.view.specs.Meaning.{Means}
-use Rattle.persistence.specs.Preview.{Ran}
-use Rattle.persistence.specs.Extends.{recordsOf, Ends}
+use Rattle.preview.specs.Preview.{Ran}
+use Rattle.preview.specs.Extends.{recordsOf, Ends}
 
 -- What is left is the preview v of the definition.
 pub record Stands (x : Ran) (v : M.Preview) : Type 0 where

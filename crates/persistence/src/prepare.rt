@@ -1,12 +1,8 @@
 // Preparing a batch on one replica: its pointer, its entries, its hard state, and the terms of the whole.
-use crate::RaftPersistenceBatch;
-use crate::batch;
-use crate::hard_state;
-use crate::pointer;
-use crate::preview;
-use crate::preview::Extended;
-use crate::preview::Prepared;
-use crate::preview::Preview;
+use batches::RaftPersistenceBatch;
+use batches::batch;
+use batches::hard_state;
+use batches::pointer;
 use codec::HardState;
 use codec::MaybeHardState;
 use codec::MaybePointer;
@@ -14,6 +10,9 @@ use codec::RaftSnapshotPointerRecord;
 use ids::Checked;
 use ids::Lsn;
 use ids::RaftReplicaIdentity;
+use preview::Extended;
+use preview::Prepared;
+use preview::Preview;
 use view::Header;
 use view::MaybeLsn;
 use view::MaybeTerm;
@@ -28,8 +27,8 @@ ghost use Rattle.view.specs.Meaning.{lsnOf};
 ghost use Rattle.view.specs.Model.{maximumTerm};
 ghost use Rattle.view.specs.Readers.{placeOf};
 ghost use Rattle.replay.specs.Plan.{heldTermIn};
-ghost use Rattle.persistence.specs.Checks.{termRows};
-ghost use Rattle.persistence.specs.Preview.{preparedOf, ranOf, Sits};
+ghost use Rattle.batches.specs.Checks.{termRows};
+ghost use Rattle.preview.specs.Preview.{preparedOf, ranOf, Sits};
 ghost use Rattle.persistence.specs.Prepare.{heldAt, movedDown, pointRan, hardHeader, hardenRan, pointIn, hardenIn, lastlyRan, entriesRan, pointedRan, beginning, prepareRan};
 
 // The term held at an index, where e stands at the place looked at.

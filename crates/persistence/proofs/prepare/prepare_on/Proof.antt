@@ -2,8 +2,8 @@
 -- Assumes nothing.
 use Prim.Native.Nat.{ℕ}
 use mathlib.Core.Path.{_≡_, sym, ap, subst, _∙_}
-use Rattle.persistence.specs.declared.preview.Preview.{Preview}
-use Rattle.persistence.specs.Preview.{Sits}
+use Rattle.preview.specs.declared.Preview.{Preview}
+use Rattle.preview.specs.Preview.{Sits}
 use Rattle.persistence.specs.Prepare.{beginning, prepareRan}
 use Rattle.persistence.proofs.Pointed.{batch-few, prepare-out, prepare-in}
 use borrow.Author.Needs.{needs}

@@ -1,7 +1,7 @@
 -- `prepare::supply_batch` meets its contract.
 -- Assumes nothing.
 use mathlib.Core.Path.{_∙_}
-use Rattle.persistence.specs.Preview.{extendFrom}
+use Rattle.preview.specs.Preview.{extendFrom}
 use Rattle.persistence.specs.Prepare.{lastlyRan}
 use Rattle.persistence.proofs.Pointed.{followed-out, followed-in, entries-is}
 use borrow.Author.Needs.{needs}

@@ -1,0 +1,4 @@
+pub mod Supplied
+pub mod Extending
+pub mod Taken
+pub mod Running
