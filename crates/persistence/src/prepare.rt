@@ -31,16 +31,6 @@ ghost use Rattle.batches.specs.Checks.{termRows};
 ghost use Rattle.preview.specs.Preview.{preparedOf, ranOf, Sits};
 ghost use Rattle.persistence.specs.Prepare.{heldAt, movedDown, pointRan, hardHeader, hardenRan, pointIn, hardenIn, lastlyRan, entriesRan, pointedRan, beginning, prepareRan};
 
-// The term held at an index, where e stands at the place looked at.
-fn held_term(head: Header, e: RecoveredRaftLogEntry, index: u64) -> MaybeTerm
-    ensures { λ r. ⌜ r ≡ heldTermIn (placeOf head index) (e .term) ⌝ }
-{
-    let Place::Held(_) = head.place_of(index) else {
-        return MaybeTerm::None;
-    };
-    MaybeTerm::Some(e.term)
-}
-
 // The term that a preview holds at an index.
 fn held_at(preview: Preview, index: u64) -> MaybeTerm
     ensures { λ r. ⌜ r ≡ heldAt preview index ⌝ }
@@ -48,7 +38,7 @@ fn held_at(preview: Preview, index: u64) -> MaybeTerm
     let head = preview.head;
     let q = replay::look(head, index);
     let e = preview.entries[q];
-    held_term(head, e, index)
+    replay::held_term(head, e, index)
 }
 
 // The first k entries go, and the others move down.
@@ -100,32 +90,6 @@ pub fn point(
     }
 }
 
-// A header with another hard state, its LSN untouched.
-fn with_hard(head: Header, h: HardState) -> Header
-    ensures { λ r. ⌜ r ≡ hardHeader head h ⌝ }
-{
-    let identity = head.identity;
-    let last_replayed_lsn = head.last_replayed_lsn;
-    let hard_state = MaybeHardState::Some(h);
-    let hard_state_lsn = head.hard_state_lsn;
-    let snapshot = head.snapshot;
-    let snapshot_pointer_lsn = head.snapshot_pointer_lsn;
-    let progress = head.progress;
-    Header {
-        identity: identity,
-        len: head.len,
-        snapshot_index: head.snapshot_index,
-        snapshot_term: head.snapshot_term,
-        committed_index: head.committed_index,
-        last_replayed_lsn: last_replayed_lsn,
-        hard_state: hard_state,
-        hard_state_lsn: hard_state_lsn,
-        snapshot: snapshot,
-        snapshot_pointer_lsn: snapshot_pointer_lsn,
-        progress: progress,
-    }
-}
-
 // The hard state of a batch: 33 to 36 look at the one kept before the batch. No LSN is counted for it.
 pub fn harden(
     preview: Preview,
@@ -143,7 +107,9 @@ pub fn harden(
             preview: preview,
         };
     }
-    let next = with_hard(head, h);
+    let hard_state = MaybeHardState::Some(h);
+    let lsn = head.hard_state_lsn;
+    let next = head.with_hard_at(hard_state, lsn);
     let mut t = preview;
     t.head = next;
     Extended {

@@ -71,20 +71,20 @@ pub enum ReadEntry {
 }
 
 // A replica's place and its header.
-struct Own {
-    place: usize,
-    head: Header,
+pub struct Own {
+    pub place: usize,
+    pub head: Header,
 }
 
 // Whether a state and its store are sound.
-fn passes(state: RecoveredRaftStorage, store: &[u8]) -> bool
+pub fn passes(state: RecoveredRaftStorage, store: &[u8]) -> bool
     ensures { λ r. ⌜ Passes state (now (store .entry)) r ⌝ }
 {
     soundness::is_sound(state, store)
 }
 
 // Where a replica stands, and its header; an empty one where it is not held.
-fn own_of(state: RecoveredRaftStorage, identity: RaftReplicaIdentity) -> Own
+pub fn own_of(state: RecoveredRaftStorage, identity: RaftReplicaIdentity) -> Own
     requires { ⌜ state .held ≤ 8 ⌝ }
     ensures { λ r. ⌜ r ≡ ownFor state identity ⌝ }
 {

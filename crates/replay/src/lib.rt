@@ -126,8 +126,8 @@ pub fn prior_term(head: Header, before: RecoveredRaftLogEntry, index: u64) -> u6
     before.term
 }
 
-// The term held at an index.
-fn held_term(head: Header, e: RecoveredRaftLogEntry, index: u64) -> MaybeTerm
+// The term held at an index, where e stands at the place looked at.
+pub fn held_term(head: Header, e: RecoveredRaftLogEntry, index: u64) -> MaybeTerm
     ensures { λ r. ⌜ r ≡ heldTermIn (placeOf head index) (e .term) ⌝ }
 {
     let Place::Held(_) = head.place_of(index) else {

@@ -608,7 +608,7 @@ impl Header {
     }
 
     // Another hard state and another LSN of it.
-    fn with_hard_at(self, hard_state: MaybeHardState, lsn: MaybeLsn) -> Header
+    pub fn with_hard_at(self, hard_state: MaybeHardState, lsn: MaybeLsn) -> Header
         ensures { λ r. ⌜ r ≡ withHardAt self «hard_state» lsn ⌝ }
     {
         let identity = self.identity;

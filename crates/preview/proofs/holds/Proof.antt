@@ -2,19 +2,13 @@ use borrow.Author.Tests.{lt-leb, le-leb}
 use borrow.Author.Needs.{needs}
 use Rattle.preview.proofs.holds.Statement.{statement}
 use Rattle.preview.proofs.holds.Tie as tie
-use Rattle.preview.proofs.holds.Reads as reads
-use Rattle.preview.proofs.holds.Lts as lts
-use Rattle.view.proofs.Header.base.Reads as base-reads
 
--- src/preview.rt:77:9
 base-requires : tie.Need-base-requires
 base-requires c κs = search needs
 
--- src/preview.rt:79:9
 returns : tie.Need-returns
 returns c = rw (← c .before .base .ensures, lt-leb _ _ (c .if1 .taken))
 
--- src/preview.rt:74:1
 returns-2 : tie.Need-returns-2
 returns-2 c = rw (← c .before .base .ensures, le-leb _ _ (c .if1 .left))
 

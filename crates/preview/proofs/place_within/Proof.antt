@@ -1,14 +1,10 @@
 use borrow.Author.Tests.{lt-ltb, le-ltb}
 use Rattle.preview.proofs.place_within.Statement.{statement}
 use Rattle.preview.proofs.place_within.Tie as tie
-use Rattle.preview.proofs.place_within.Reads as reads
-use Rattle.preview.proofs.place_within.Lts as lts
 
--- src/preview.rt:89:9
 returns : tie.Need-returns
 returns c = rw (lt-ltb _ _ (c .if1 .taken))
 
--- src/preview.rt:85:1
 returns-2 : tie.Need-returns-2
 returns-2 c = rw (le-ltb _ _ (c .if1 .left))
 

@@ -1,54 +1,40 @@
 use borrow.Author.Needs.{needs}
 use Rattle.preview.proofs.refusal_in.Statement.{statement}
 use Rattle.preview.proofs.refusal_in.Tie as tie
-use Rattle.preview.proofs.refusal_in.Reads as reads
-use Rattle.preview.proofs.refusal_in.Lts as lts
 
--- src/preview.rt:64:33
 enum-told : tie.Need-enum-told
 enum-told c = search needs
 
--- src/preview.rt:65:34
 enum-told-2 : tie.Need-enum-told-2
 enum-told-2 c = search needs
 
--- src/preview.rt:66:42
 enum-told-3 : tie.Need-enum-told-3
 enum-told-3 c = search needs
 
--- src/preview.rt:67:43
 enum-told-4 : tie.Need-enum-told-4
 enum-told-4 c = search needs
 
--- src/preview.rt:68:30
 enum-told-5 : tie.Need-enum-told-5
 enum-told-5 c = search needs
 
--- src/preview.rt:69:30
 enum-known-answer : tie.Need-enum-known-answer
 enum-known-answer c = search needs
 
--- src/preview.rt:60:1
 returns : tie.Need-returns
 returns c = search needs
 
--- src/preview.rt:60:1
 returns-2 : tie.Need-returns-2
 returns-2 c = search needs
 
--- src/preview.rt:60:1
 returns-3 : tie.Need-returns-3
 returns-3 c = search needs
 
--- src/preview.rt:60:1
 returns-4 : tie.Need-returns-4
 returns-4 c = search needs
 
--- src/preview.rt:60:1
 returns-5 : tie.Need-returns-5
 returns-5 c = search needs
 
--- src/preview.rt:60:1
 returns-6 : tie.Need-returns-6
 returns-6 c = simp (c .before .answer .given .1)
 

@@ -5,72 +5,52 @@ use Rattle.preview.proofs.Taken.{take-below, take-lsn, take-replayable,
 use borrow.Author.Needs.{needs}
 use Rattle.preview.proofs.take_entry.Statement.{statement}
 use Rattle.preview.proofs.take_entry.Tie as tie
-use Rattle.preview.proofs.take_entry.Reads as reads
-use Rattle.preview.proofs.take_entry.Lts as lts
-use Rattle.preview.proofs.refusal_in.Reads as refusal-in-reads
-use Rattle.preview.proofs.supply.Reads as supply-reads
-use Rattle.replay.proofs.look_before.Reads as look-before-reads
 
--- src/preview.rt:106:9
 look-before-requires : tie.Need-look-before-requires
 look-before-requires c κs = search needs
 
--- src/preview.rt:107:13
 mul-e : tie.Need-mul-e
 mul-e c = let l : c .before .before .before .before .args .q < 64 = take-below (c .before .before .before .before .args .t1) (c .before .before .before .before .args .q) (c .before .before .before .before .args .r) (c .before .before .before .before .args .block .now) (c .before .before .before .before .args .lent .now) (c .before .before .before .before .pre) in search needs
 
--- src/preview.rt:107:13
 element-copy-out-e : tie.Need-element-copy-out-e
 element-copy-out-e c = let l : c .before .before .before .before .args .q < 64 = take-below (c .before .before .before .before .args .t1) (c .before .before .before .before .args .q) (c .before .before .before .before .args .r) (c .before .before .before .before .args .block .now) (c .before .before .before .before .args .lent .now) (c .before .before .before .before .pre) in search needs
 
--- src/preview.rt:108:17
 mul-prior : tie.Need-mul-prior
 mul-prior c = let l : c .before .look-before .result < 64 = rw (c .before .look-before .ensures) (look-below (c .before .before .before .before .before .args .t1 .head) (c .before .before .before .before .before .args .r .index - 1)) in search needs
 
--- src/preview.rt:108:17
 element-copy-out-prior : tie.Need-element-copy-out-prior
 element-copy-out-prior c = let l : c .before .look-before .result < 64 = rw (c .before .look-before .ensures) (look-below (c .before .before .before .before .before .args .t1 .head) (c .before .before .before .before .before .args .r .index - 1)) in search needs
 
--- src/preview.rt:109:15
 add-lsn : tie.Need-add-lsn
 add-lsn c = let l : c .before .before .before .before .before .before .args .t1 .lsn < u64-max = take-lsn (c .before .before .before .before .before .before .args .t1) (c .before .before .before .before .before .before .args .q) (c .before .before .before .before .before .before .args .r) (c .before .before .before .before .before .before .args .block .now) (c .before .before .before .before .before .before .args .lent .now) (c .before .before .before .before .before .before .pre) in search needs
 
--- src/preview.rt:111:9
 supply-requires : tie.Need-supply-requires
 supply-requires c κs = take-replayable (c .before .before .before .before .before .before .before .args .t1) (c .before .before .before .before .before .before .before .args .q) (c .before .before .before .before .before .before .before .args .r) (c .before .before .before .before .before .before .before .args .block .now) (c .before .before .before .before .before .before .before .args .lent .now) (c .before .before .before .before .before .before .before .pre)
 
--- src/preview.rt:113:9
 refusal-in-requires : tie.Need-refusal-in-requires
 refusal-in-requires c κs = search needs
 
--- src/preview.rt:114:30
 enum-known-refused : tie.Need-enum-known-refused
 enum-known-refused c = search needs
 
--- src/preview.rt:115:9
 same-length : tie.Need-same-length
 same-length c = search needs
 
--- src/preview.rt:115:9
 returns : tie.Need-returns
 returns c = take-refused (c .before .before .before .before .before .before .before .before .before .before .before .before .before .before .args .t1) (c .before .before .before .before .before .before .before .before .before .before .before .before .before .before .args .q) (c .before .before .before .before .before .before .before .before .before .before .before .before .before .before .args .r) (c .before .before .before .before .before .before .before .before .before .before .before .before .before .before .args .block .now) (c .before .before .before .before .before .before .before .before .before .before .before .before .before .before .args .lent .now) (c .before .before .before .before .before .before .before .before .before .before .look-before .result) (c .before .before .before .before .before .before .supply .result) _ (c .before .before .before .refusal-in .result) (c .before .before .before .before .before .before .before .before .before .before .look-before .ensures) (c .before .before .before .before .before .before .supply .ensures) (c .before .before .before .refusal-in .ensures) _ (c .before .refused .given .1)
 
 enum-told : tie.Need-enum-told
 enum-told c = search needs
 
--- src/preview.rt:124:5
 mul-entry : tie.Need-mul-entry
 mul-entry c = let l : c .before .before .before .before .before .before .before .before .before .before .before .before .before .before .before .args .q < 64 = take-below (c .before .before .before .before .before .before .before .before .before .before .before .before .before .before .before .args .t1) (c .before .before .before .before .before .before .before .before .before .before .before .before .before .before .before .args .q) (c .before .before .before .before .before .before .before .before .before .before .before .before .before .before .before .args .r) (c .before .before .before .before .before .before .before .before .before .before .before .before .before .before .before .args .block .now) (c .before .before .before .before .before .before .before .before .before .before .before .before .before .before .before .args .lent .now) (c .before .before .before .before .before .before .before .before .before .before .before .before .before .before .before .pre) in search needs
 
--- src/preview.rt:124:5
 element-set-from-entry : tie.Need-element-set-from-entry
 element-set-from-entry c = let l : c .before .before .before .before .before .before .before .before .before .before .before .before .before .before .before .args .q < 64 = take-below (c .before .before .before .before .before .before .before .before .before .before .before .before .before .before .before .args .t1) (c .before .before .before .before .before .before .before .before .before .before .before .before .before .before .before .args .q) (c .before .before .before .before .before .before .before .before .before .before .before .before .before .before .before .args .r) (c .before .before .before .before .before .before .before .before .before .before .before .before .before .before .before .args .block .now) (c .before .before .before .before .before .before .before .before .before .before .before .before .before .before .before .args .lent .now) (c .before .before .before .before .before .before .before .before .before .before .before .before .before .before .before .pre) in search needs
 
--- src/preview.rt:95:1
 same-length-2 : tie.Need-same-length-2
 same-length-2 c = search needs
 
--- src/preview.rt:95:1
 returns-2 : tie.Need-returns-2
 returns-2 c = take-kept (c .before .before .before .before .before .before .before .before .before .before .before .before .before .before .before .args .t1) (c .before .before .before .before .before .before .before .before .before .before .before .before .before .before .before .args .q) (c .before .before .before .before .before .before .before .before .before .before .before .before .before .before .before .args .r) (c .before .before .before .before .before .before .before .before .before .before .before .before .before .before .before .args .block .now) (c .before .before .before .before .before .before .before .before .before .before .before .before .before .before .before .args .lent .now) (c .before .before .before .before .before .before .before .before .before .before .before .look-before .result) (c .before .before .before .before .before .before .before .supply .result) _ (c .before .before .before .before .refusal-in .result) (c .before .before .before .before .before .before .before .before .before .before .before .look-before .ensures) (c .before .before .before .before .before .before .before .supply .ensures) (c .before .before .before .before .refusal-in .ensures) (c .before .before .enum-told .given .1)
 

@@ -7,8 +7,6 @@ use Rattle.persistence.proofs.Pointed.{followed-out, followed-in, point
 use borrow.Author.Needs.{needs}
 use Rattle.persistence.proofs.prepare.apply_batch.Statement.{statement}
 use Rattle.persistence.proofs.prepare.apply_batch.Tie as tie
-use Rattle.persistence.proofs.prepare.apply_batch.Reads as reads
-use Rattle.persistence.proofs.prepare.apply_batch.Lts as lts
 
 point-batch-requires : tie.Need-point-batch-requires
 point-batch-requires c κs = search needs

@@ -4,8 +4,6 @@ use Rattle.persistence.proofs.Pointed.{conclude-out, conclude-in}
 use borrow.Author.Needs.{needs}
 use Rattle.persistence.proofs.prepare.conclude.Statement.{statement}
 use Rattle.persistence.proofs.prepare.conclude.Tie as tie
-use Rattle.persistence.proofs.prepare.conclude.Reads as reads
-use Rattle.persistence.proofs.prepare.conclude.Lts as lts
 
 largest-term-requires : tie.Need-largest-term-requires
 largest-term-requires c κs = search needs

@@ -4,8 +4,6 @@ use Rattle.persistence.proofs.Pointed.{harden-out, harden-in}
 use borrow.Author.Needs.{needs}
 use Rattle.persistence.proofs.prepare.harden.Statement.{statement}
 use Rattle.persistence.proofs.prepare.harden.Tie as tie
-use Rattle.persistence.proofs.prepare.harden.Reads as reads
-use Rattle.persistence.proofs.prepare.harden.Lts as lts
 
 last-requires : tie.Need-last-requires
 last-requires c κs = search needs
@@ -24,13 +22,13 @@ returns c =
 enum-told : tie.Need-enum-told
 enum-told c = search needs
 
-with-hard-requires : tie.Need-with-hard-requires
-with-hard-requires c κs = search needs
+with-hard-at-requires : tie.Need-with-hard-at-requires
+with-hard-at-requires c κs = search needs
 
 returns-2 : tie.Need-returns-2
 returns-2 c =
     let a = c .before .before .before .before .before .before .args in
-    harden-in (a .kept) (a .snapshot) (a .h) (a .preview) (c .before .before .before .before .last .result) (c .before .before .before .check-hard-state .result) (c .before .before .before .before .last .ensures) (c .before .before .before .check-hard-state .ensures) (c .with-hard .result) (c .before .enum-told .given .1) (c .with-hard .ensures)
+    harden-in (a .kept) (a .snapshot) (a .h) (a .preview) (c .before .before .before .before .last .result) (c .before .before .before .check-hard-state .result) (c .before .before .before .before .last .ensures) (c .before .before .before .check-hard-state .ensures) (c .with-hard-at .result) (c .before .enum-told .given .1) (c .with-hard-at .ensures)
 
 pub harden-spec : {M : Type 1} → statement M
 harden-spec =
@@ -41,5 +39,5 @@ harden-spec =
     enum-known-why
     returns
     enum-told
-    with-hard-requires
+    with-hard-at-requires
     returns-2)

@@ -6,8 +6,6 @@ use Rattle.persistence.specs.Prepare.{hardenIn}
 use borrow.Author.Needs.{needs}
 use Rattle.persistence.proofs.prepare.harden_batch.Statement.{statement}
 use Rattle.persistence.proofs.prepare.harden_batch.Tie as tie
-use Rattle.persistence.proofs.prepare.harden_batch.Reads as reads
-use Rattle.persistence.proofs.prepare.harden_batch.Lts as lts
 
 enum-known-hard-state : tie.Need-enum-known-hard-state
 enum-known-hard-state c = search needs

@@ -10,32 +10,23 @@ use Rattle.replay.proofs.Written.{look-below}
 use borrow.Author.Needs.{needs}
 use Rattle.persistence.proofs.prepare.held_at.Statement.{statement}
 use Rattle.persistence.proofs.prepare.held_at.Tie as tie
-use Rattle.persistence.proofs.prepare.held_at.Reads as reads
-use Rattle.persistence.proofs.prepare.held_at.Lts as lts
-use Rattle.persistence.proofs.prepare.held_term.Reads as held-term-reads
-use Rattle.replay.proofs.look.Reads as look-reads
 
--- src/prepare.rt:50:9
 look-requires : tie.Need-look-requires
 look-requires c κs = search needs
 
--- src/prepare.rt:51:13
 mul-e : tie.Need-mul-e
 mul-e c =
     let l : c .look .result < 64 = rw (c .look .ensures) (look-below (c .before .before .args .t1 .head) (c .before .before .args .index)) in
     search needs
 
--- src/prepare.rt:51:13
 element-copy-out-e : tie.Need-element-copy-out-e
 element-copy-out-e c =
     let l : c .look .result < 64 = rw (c .look .ensures) (look-below (c .before .before .args .t1 .head) (c .before .before .args .index)) in
     search needs
 
--- src/prepare.rt:52:5
 held-term-requires : tie.Need-held-term-requires
 held-term-requires c κs = search needs
 
--- src/prepare.rt:46:1
 returns : tie.Need-returns
 returns c =
     let a = c .before .before .before .before .args in

@@ -8,9 +8,6 @@ use borrow.Author.Needs.{needs}
 use Rattle.persistence.proofs.Moved.{Largest, largest-start, largest-turn, largest-end, largest-past}
 use Rattle.persistence.proofs.prepare.largest_term.Statement.{statement}
 use Rattle.persistence.proofs.prepare.largest_term.Tie as tie
-use Rattle.persistence.proofs.prepare.largest_term.Reads as reads
-use Rattle.persistence.proofs.prepare.largest_term.Lts as lts
-use Rattle.view.proofs.larger.Reads as larger-reads
 
 abbrev Inv-loop : tie.InvT-loop
 Inv-loop preview n m₀ q₀ m q = (n ≡ preview .head .len) × Largest (preview .head) (preview .entries) m q
@@ -18,48 +15,39 @@ Inv-loop preview n m₀ q₀ m q = (n ≡ preview .head .len) × Largest (previe
 abbrev μ-loop : tie.MeasureT-loop
 μ-loop preview n m₀ q₀ m q = n - q
 
--- src/prepare.rt:140:5
 loop-holds : tie.Need-loop-holds Inv-loop μ-loop
 loop-holds c =
     let p = c .before .args .t1 in
     let l : length (p .entries) ≡ 64 = sym (length-map (p .entries) (Rattle.view.proofs.RecoveredRaftLogEntry.the-type .to)) ∙ c .before .good .0 .1 .1 .1 .0 .1 .0 .1 in
     (refl, largest-start (p .head) (p .entries) l)
 
--- src/prepare.rt:142:13
 returns : tie.Need-returns Inv-loop μ-loop
 returns c =
     let l = c .before .before .loop in
     let p = c .before .before .before .before .args .t1 in
     largest-past (p .head) (p .entries) (l .m) (l .q) (l .inv .1) (c .if1 .taken)
 
--- src/prepare.rt:144:17
 mul-e : tie.Need-mul-e Inv-loop μ-loop
 mul-e c = search needs
 
--- src/prepare.rt:144:17
 element-copy-out-e : tie.Need-element-copy-out-e Inv-loop μ-loop
 element-copy-out-e c = search needs
 
--- src/prepare.rt:145:9
 larger-requires : tie.Need-larger-requires Inv-loop μ-loop
 larger-requires c κs = search needs
 
--- src/prepare.rt:146:13
 add-q : tie.Need-add-q Inv-loop μ-loop
 add-q c = search needs
 
--- src/prepare.rt:140:5
 loop-less : tie.Need-loop-less Inv-loop μ-loop
 loop-less c = search needs
 
--- src/prepare.rt:140:5
 loop-again : tie.Need-loop-again Inv-loop μ-loop
 loop-again c =
     let l = c .before .before .before .before .loop in
     let p = c .before .before .before .before .before .before .args .t1 in
     (refl, largest-turn (p .head) (p .entries) (l .m) (l .q) (l .inv .1) (c .before .before .before .loop-test .taken) (c .before .before .if1 .left) (c .larger .result) (c .larger .ensures))
 
--- src/prepare.rt:133:1
 returns-2 : tie.Need-returns-2 Inv-loop μ-loop
 returns-2 c =
     let l = c .before .loop in

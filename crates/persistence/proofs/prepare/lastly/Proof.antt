@@ -6,8 +6,6 @@ use Rattle.persistence.proofs.Pointed.{followed-out, followed-in, concl
 use borrow.Author.Needs.{needs}
 use Rattle.persistence.proofs.prepare.lastly.Statement.{statement}
 use Rattle.persistence.proofs.prepare.lastly.Tie as tie
-use Rattle.persistence.proofs.prepare.lastly.Reads as reads
-use Rattle.persistence.proofs.prepare.lastly.Lts as lts
 
 harden-batch-requires : tie.Need-harden-batch-requires
 harden-batch-requires c κs = search needs

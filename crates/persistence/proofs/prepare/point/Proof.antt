@@ -9,8 +9,6 @@ use Rattle.persistence.proofs.Pointed.{point-out, point-lsn, point-in}
 use borrow.Author.Needs.{needs}
 use Rattle.persistence.proofs.prepare.point.Statement.{statement}
 use Rattle.persistence.proofs.prepare.point.Tie as tie
-use Rattle.persistence.proofs.prepare.point.Reads as reads
-use Rattle.persistence.proofs.prepare.point.Lts as lts
 
 held-at-requires : tie.Need-held-at-requires
 held-at-requires c κs = search needs

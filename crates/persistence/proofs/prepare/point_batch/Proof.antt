@@ -7,8 +7,6 @@ use Rattle.persistence.specs.Prepare.{pointIn}
 use borrow.Author.Needs.{needs}
 use Rattle.persistence.proofs.prepare.point_batch.Statement.{statement}
 use Rattle.persistence.proofs.prepare.point_batch.Tie as tie
-use Rattle.persistence.proofs.prepare.point_batch.Reads as reads
-use Rattle.persistence.proofs.prepare.point_batch.Lts as lts
 
 enum-known-snapshot : tie.Need-enum-known-snapshot
 enum-known-snapshot c = search needs

@@ -9,8 +9,6 @@ use Rattle.persistence.proofs.Pointed.{batch-few, prepare-out, prepare-
 use borrow.Author.Needs.{needs}
 use Rattle.persistence.proofs.prepare.prepare_on.Statement.{statement}
 use Rattle.persistence.proofs.prepare.prepare_on.Tie as tie
-use Rattle.persistence.proofs.prepare.prepare_on.Reads as reads
-use Rattle.persistence.proofs.prepare.prepare_on.Lts as lts
 
 number-of-requires : tie.Need-number-of-requires
 number-of-requires c κs = search needs

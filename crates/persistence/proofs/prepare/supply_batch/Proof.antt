@@ -7,8 +7,6 @@ use Rattle.persistence.proofs.Pointed.{followed-out, followed-in, entri
 use borrow.Author.Needs.{needs}
 use Rattle.persistence.proofs.prepare.supply_batch.Statement.{statement}
 use Rattle.persistence.proofs.prepare.supply_batch.Tie as tie
-use Rattle.persistence.proofs.prepare.supply_batch.Reads as reads
-use Rattle.persistence.proofs.prepare.supply_batch.Lts as lts
 
 extend-requires : tie.Need-extend-requires
 extend-requires c κs = search needs
