@@ -1,2 +1,4 @@
 pub mod Prepare
 pub mod Prepares
+pub mod Tries
+pub mod Answer

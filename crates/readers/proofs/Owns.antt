@@ -1,10 +1,10 @@
 -- A replica by its place and header: what the definition holds for it.
 -- Assumes nothing.
-use mathlib.Core.Path.{_≡_, refl, sym, ap, _∙_}
+use mathlib.Core.Path.{_≡_, refl, sym, ap, subst, _∙_}
 use mathlib.Core.Bool.{Bool, true}
 use mathlib.Core.List.{List}
 use mathlib.Core.Option.{Option, none, some, Option·getD}
-use Prim.Native.Nat.{ℕ, _+_, _<_, _≤_}
+use Prim.Native.Nat.{ℕ, _+_, _*_, _<_, _≤_}
 use native.Mathlib.Omega.{arith}
 use lib.ListN.{length, getD}
 use Rattle.definition.specs.Table.{Result, ok, u64-max}
@@ -14,8 +14,12 @@ use Rattle.definition.specs.Recovery.{placeOf, ascending, replicaOf, sound}
 use Rattle.definition.proofs.Sound.{state-facts}
 use Rattle.ids.specs.Identity.{identityOf}
 use Rattle.ids.specs.declared.RaftReplicaIdentity.{RaftReplicaIdentity}
-use Rattle.view.specs.Meaning.{noEntry, sizeOf, viewOf, baseOf, Fits}
-use Rattle.view.proofs.Head.{empty-view}
+use Rattle.store.proofs.Part.{length-part, splice-none}
+use Rattle.store.proofs.Zeros.{length-zeros}
+use Rattle.store.specs.Zeros.{zeros}
+use Rattle.view.specs.Meaning.{noEntry, sizeOf, viewOf, baseOf, Fits, Means}
+use Rattle.view.specs.Model.{emptyHeader}
+use Rattle.view.proofs.Head.{empty-view, empty-fits}
 use Rattle.storage.specs.declared.RecoveredRaftStorage.{RecoveredRaftStorage}
 use Rattle.storage.specs.declared.Found.{Found}
 use Rattle.storage.specs.declared.Found.the-variants as F
@@ -26,9 +30,10 @@ use Rattle.storage.proofs.Finding.{Told, found-told, at-lookup, at-place, missi
 use Rattle.soundness.specs.Sound.{soundTest, Sound}
 use Rattle.soundness.proofs.Sound.{test-linked, test-state, test-sound}
 use Rattle.readers.specs.declared.Own.{Own}
-use Rattle.readers.specs.Own.{Passes, ownIn, foundPlace, ownFor}
+use Rattle.readers.specs.Own.{Passes, ownIn, foundPlace, ownFor, blockOf}
 use Rattle.readers.specs.Reads.{Reads, placeIn}
 use Rattle.readers.proofs.Answers.{test-passed, reads-whole}
+use Rattle.readers.proofs.Kept.{held-block}
 
 -- A place that is found is a held one.
 pub found-held : (s : RecoveredRaftStorage) (i : Identity) (p : ℕ) → F.At p ≡ foundAt s i → p < s .held
@@ -48,34 +53,62 @@ pub record Owns (s : RecoveredRaftStorage) (st : List ℕ) (i : RaftReplicaIdent
   pub short : o .head .len ≤ 64
   pub indices : baseOf (o .head) + o .head .len ≤ u64-max + 1
   pub sizes : (q : ℕ) → q < o .head .len → sizeOf (getD (entriesIn s (o .place)) q noEntry .payload) ≤ 64
+  pub all : length (s .entries) ≡ 512
+  pub means : Means (o .head) (entriesIn s (o .place)) (blockOf st o) (replicaOf (identityOf i) (meaning s st))
 
 module _ (s : RecoveredRaftStorage) (st : List ℕ) (i : RaftReplicaIdentity) (e : soundTest s st ≡ true) (k : Sound s st) (l : Linked s st) (asc : ascending (meaning s st .replicas) ≡ true) where
-  owns-found : (x : Found) → Told s (identityOf i) x → Owns s st i (ownIn s i (foundPlace x))
+  own-view : (p : ℕ) → Told s (identityOf i) (F.At p) → viewOf (headAt s p) (entriesIn s p) (bytesIn st p) ≡ replicaOf (identityOf i) (meaning s st)
   unfolding replicaOf
+  own-view p t = sym (ap (λ (x : Option (Log ℕ)). Option·getD x empty) (at-lookup s st (identityOf i) p t))
+
+  no-view : (p : ℕ) → Told s (identityOf i) (F.Missing p) → (cs : List ℕ) → viewOf (emptyHeader i) (entriesIn s 0) cs ≡ replicaOf (identityOf i) (meaning s st)
+  unfolding replicaOf
+  no-view p t cs = empty-view i (entriesIn s 0) cs ∙ sym (ap (λ (x : Option (Log ℕ)). Option·getD x empty) (missing-lookup s st (identityOf i) p asc t))
+
+  owns-found : (x : Found) → Told s (identityOf i) x → Owns s st i (ownIn s i (foundPlace x))
   owns-found (F.At p) t =
       let f : Fits (headAt s p) (entriesIn s p) (bytesIn st p) = l .own p (t .1) in
       record {
         test = e;
         whole = k .whole;
-        view = sym (ap (λ (x : Option (Log ℕ)). Option·getD x empty) (at-lookup s st (identityOf i) p t));
+        view = own-view p t;
         stands = sym (ap (ownIn s i) (at-place s st (identityOf i) p t));
         low = omega (arith, t .1, l .few);
         size = l .size;
         short = f .short;
         indices = f .indices;
         sizes = f .sizes;
+        all = l .all;
+        means =
+            subst (λ (cs : List ℕ). Means (headAt s p) (entriesIn s p) cs (replicaOf (identityOf i) (meaning s st)))
+            (sym (held-block (headAt s p) (entriesIn s p) st p f (l .size) (omega (arith, t .1, l .few))))
+            (record {
+              view = own-view p t;
+              fits = f;
+              places = length-part (64 * p) 64 (s .entries) (omega (arith, t .1, l .few, l .all));
+              bytes = length-part (4096 * p) 4096 st (omega (arith, t .1, l .few, l .size));
+            });
       }
   owns-found (F.Missing p) t =
       record {
         test = e;
         whole = k .whole;
-        view = empty-view i (entriesIn s 0) (bytesIn st 0) ∙ sym (ap (λ (x : Option (Log ℕ)). Option·getD x empty) (missing-lookup s st (identityOf i) p asc t));
+        view = no-view p t (bytesIn st 0);
         stands = sym (ap (ownIn s i) (missing-place s st (identityOf i) p asc t));
         low = omega arith;
         size = l .size;
         short = omega arith;
         indices = omega arith;
         sizes = λ q h. absurd (omega arith);
+        all = l .all;
+        means =
+            subst (λ (cs : List ℕ). Means (emptyHeader i) (entriesIn s 0) cs (replicaOf (identityOf i) (meaning s st))) (sym (splice-none (zeros 4096) 0))
+            (record {
+              view = no-view p t (zeros 4096);
+              fits = empty-fits i (entriesIn s 0);
+              places = length-part 0 64 (s .entries) (omega (arith, l .all));
+              bytes = length-zeros 4096;
+            });
       }
 
 own-place : (s : RecoveredRaftStorage) (i : RaftReplicaIdentity) (x : Option ℕ) → Option·getD x 0 ≡ ownIn s i x .place

@@ -4,10 +4,12 @@ use mathlib.Core.Path.{_≡_}
 use mathlib.Core.Bool.{Bool}
 use mathlib.Core.List.{List}
 use mathlib.Core.Option.{Option, none, some}
-use Prim.Native.Nat.{ℕ}
+use Prim.Native.Nat.{ℕ, _*_}
 use lib.ListN.{length}
 use Rattle.ids.specs.Identity.{identityOf}
 use Rattle.ids.specs.declared.RaftReplicaIdentity.{RaftReplicaIdentity}
+use Rattle.store.specs.Splice.{part, splice}
+use Rattle.store.specs.Zeros.{zeros}
 use Rattle.view.specs.Model.{emptyHeader}
 use Rattle.storage.specs.declared.RecoveredRaftStorage.{RecoveredRaftStorage}
 use Rattle.storage.specs.declared.Found.{Found}
@@ -34,3 +36,7 @@ foundPlace (F.Missing p) = none
 
 abbrev pub ownFor : RecoveredRaftStorage → RaftReplicaIdentity → Own
 ownFor s i = ownIn s i (foundPlace (foundAt s (identityOf i)))
+
+-- The block of a replica's commands: its held cells, and zeros behind them.
+abbrev pub blockOf : List ℕ → Own → List ℕ
+blockOf st o = splice (zeros 4096) 0 (part (4096 * o .place) (64 * o .head .len) st)
