@@ -1,11 +1,12 @@
 #!/usr/bin/env python3
-"""Times observing beside the Rust original, in one run, alternating.
+"""Times observing and preparing beside the Rust original, in one run, alternating.
 
     scripts/bench.py ORACLE-BENCH [RUNS]
 
-ORACLE-BENCH is the original's benchmark, built without overflow checks. The journal is the one that crates/bench makes:
-4,096 records of six replicas. Prints the median of RUNS (default 5) for each, and the ratio to the original's. All by the clock:
-run it on a machine that does nothing else.
+ORACLE-BENCH is the original's benchmark, built without overflow checks; oracle-bench-batch stands beside it. The journal is the one
+that crates/bench makes: 4,096 records of six replicas. The batch is 32 entries of 32 bytes and a hard state, on a replica that holds
+32. Prints the median of RUNS (default 5) for each, and the ratio to the original's. All by the clock: run it on a machine that does
+nothing else.
 """
 import re, statistics, subprocess, sys, tempfile, time
 
@@ -34,6 +35,16 @@ def ours(mode, digit):
     return time.perf_counter() - before
 
 
+def batches(oracle, runs):
+    """Microseconds a batch: the original's, ours."""
+    rust, prepared = [], []
+    for _ in range(runs):
+        said = subprocess.run([oracle + '-batch', '20000'], capture_output=True, text=True, check=True).stdout
+        rust.append(float(re.search(r'([0-9.]+) us', said).group(1)))
+        prepared.append((ours(3, 9) - ours(3, 0)) * 1e6 / 9000)
+    return statistics.median(rust), statistics.median(prepared)
+
+
 def main():
     oracle, runs = sys.argv[1], int(sys.argv[2]) if len(sys.argv) > 2 else 5
     with tempfile.NamedTemporaryFile('w', suffix='.journal') as f:
@@ -49,6 +60,9 @@ def main():
     base = statistics.median(rust)
     for name, times in (('the original, observe and finish', rust), ('observe_records, chunks of 256, and finish', chunks), ('observe_record, each call checked', calls)):
         print(f'{statistics.median(times):8.0f} ns a record   {statistics.median(times) / base:6.2f}   {name}')
+    rust, prepared = batches(oracle, runs)
+    print(f'{rust:8.2f} us a batch    {1:6.2f}   the original, prepare_batch')
+    print(f'{prepared:8.2f} us a batch    {prepared / rust:6.2f}   prepare_batch, with the whole soundness test')
 
 
 if __name__ == "__main__":

@@ -1,6 +1,9 @@
 // A journal of 4,096 records on six replicas, made by rule (scripts/bench.py writes the same as text), and observed again and
 // again. Standard input has a mode and a digit N for 10 N rounds: '1 N' observes it in chunks and finishes, '2 N' by one call a
-// record. It prints the count of scanned records, summed over the rounds.
+// record. It prints the count of scanned records, summed over the rounds. '3 N' prepares a batch of 32 a hundred times a round, and
+// prints how many records were prepared.
+mod preparing;
+
 use codec::Checksum;
 use codec::DurableRaftEntryPayload;
 use codec::HardState;
@@ -260,6 +263,9 @@ fn by_calls(chunks: [Chunk; 16], rounds: u64, lent: &[u8], store: &mut [u8]) -> 
 fn summed(mode: u8, chunks: [Chunk; 16], rounds: u64, lent: &[u8], store: &mut [u8]) -> u64 {
     if mode == b'2' {
         return by_calls(chunks, rounds, lent, store);
+    }
+    if mode == b'3' {
+        return preparing::prepared(rounds, lent, store);
     }
     by_chunks(chunks, rounds, lent, store)
 }
