@@ -4,3 +4,4 @@ pub mod Pointed
 pub mod Recorded
 pub mod Tried
 pub mod Answered
+pub mod Single
