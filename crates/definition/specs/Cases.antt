@@ -8,4 +8,4 @@ pub mod Checks
 pub mod Batches
 pub mod TwoLists
 pub mod Readers
-pub mod Store
+pub mod Cells
