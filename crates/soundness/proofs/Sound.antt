@@ -30,7 +30,8 @@ use Rattle.view.proofs.Readers.{count-is}
 use Rattle.storage.specs.declared.RecoveredRaftStorage.{RecoveredRaftStorage}
 use Rattle.storage.specs.Model.{noHeader, headAt, entriesIn, bytesIn}
 use Rattle.storage.specs.Meaning.{heldAt, logAt, meaning, recoveryOf, Linked}
-use Rattle.soundness.specs.Sound.{lsnOk, headClauses, headOk, replicaOk, replicasOk, headsRise, soundClauses, soundTest, Sound}
+use Rattle.clauses.specs.Clauses.{lsnOk, headClauses, headOk}
+use Rattle.soundness.specs.Sound.{replicaOk, replicasOk, headsRise, soundClauses, soundTest, Sound}
 use Rattle.storage.proofs.Walk.{getD-next}
 use Rattle.definition.proofs.Order.{before-trans}
 use Rattle.storage.proofs.Rank.{every-at, every-tab, ascending-at, ascending-tab}

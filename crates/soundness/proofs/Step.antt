@@ -21,8 +21,10 @@ use Rattle.view.specs.declared.Header.{Header}
 use Rattle.view.specs.declared.RecoveredRaftLogEntry.{RecoveredRaftLogEntry}
 use Rattle.view.specs.Meaning.{noEntry, idOf}
 use Rattle.storage.specs.Model.{noHeader}
-use Rattle.soundness.specs.Sound.{headOk, entryOk, entriesOk, replicaOk, replicasOk, headsRise}
+use Rattle.clauses.specs.Clauses.{headOk, entryOk}
+use Rattle.soundness.specs.Sound.{entriesOk, replicaOk, replicasOk, headsRise}
 use Rattle.storage.proofs.Walk.{first-left, second-left, past}
+use Rattle.clauses.proofs.Laws.{tail-is}
 use Rattle.soundness.proofs.Test.{head-short}
 
 -- One turn of a walk that keeps whether all was well: x is what is asked of the whole, w of the rest, t of the next and v past it.
@@ -33,21 +35,6 @@ kept good t v p e f d = p ∙ ap (λ (b : Bool). good && b) e ∙ sym (ap (λ (b
 guarded : (ok : Bool) (f : ℕ → Bool) (n : ℕ) (v : Bool) → (ok && f n && v) ≡ (ok && (f (cond ok n 0) && v))
 guarded true f n v = refl
 guarded false f n v = refl
-
-pub beq-true : (b : Bool) → Bool·beq true b ≡ b
-beq-true true = refl
-beq-true false = refl
-
--- A sum that keeps a limit, and one that does not.
-pub sum-fits : (a n m : ℕ) → a ≤ m → n ≤ m - a → (a + n ≤? m) ≡ true
-sum-fits a n m h k = le-leb (a + n) m (omega arith)
-
-pub sum-over : (a n m : ℕ) → m - a < n → (a + n ≤? m) ≡ false
-sum-over a n m h = lt-leb (a + n) m (omega arith)
-
--- What stands from a on, of n.
-pub tail-is : {A : Type 0} (l : List A) (a n : ℕ) → length l ≡ n → take (n - a) (drop a l) ≡ drop a l
-tail-is l a n e = let d : length (drop a l) ≡ length l - a = length-drop a l in take-all (n - a) (drop a l) (omega arith)
 
 module _ (last : Option ℕ) where
   -- What is asked of the entries from q on, of n.

@@ -24,7 +24,8 @@ use Rattle.view.specs.declared.Header.{Header}
 use Rattle.view.specs.declared.RecoveredRaftLogEntry.{RecoveredRaftLogEntry}
 use Rattle.view.specs.Meaning.{noEntry, cellAt, cellOf, payloadIn, sizeOf, baseOf, Fits}
 use Rattle.storage.specs.Model.{noHeader}
-use Rattle.soundness.specs.Sound.{headClauses, headOk, entryClauses, entryOk, entriesOk, replicaOk, replicasOk}
+use Rattle.clauses.specs.Clauses.{headClauses, headOk, entryClauses, entryOk}
+use Rattle.soundness.specs.Sound.{entriesOk, replicaOk, replicasOk}
 use Rattle.storage.proofs.Walk.{getD-next, drop-next}
 use Rattle.storage.proofs.Store.{none-of}
 

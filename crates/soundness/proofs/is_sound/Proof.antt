@@ -14,7 +14,8 @@ use Rattle.store.specs.Zeros.{allZero}
 use Rattle.view.specs.Meaning.{lsnOf}
 use Rattle.storage.specs.declared.RecoveredRaftStorage.{RecoveredRaftStorage}
 use Rattle.soundness.specs.Sound.{replicasOk, soundClauses, soundTest}
-use Rattle.soundness.proofs.Step.{kept, tail-is, replicasLeft, replicas-begin, replicas-end, walked-short, blockLeft, head-turn, entry-turn, block-turn}
+use Rattle.clauses.proofs.Laws.{tail-is}
+use Rattle.soundness.proofs.Step.{kept, replicasLeft, replicas-begin, replicas-end, walked-short, blockLeft, head-turn, entry-turn, block-turn}
 use Rattle.soundness.proofs.is_sound.Statement.{statement}
 use Rattle.soundness.proofs.is_sound.Tie as tie
 

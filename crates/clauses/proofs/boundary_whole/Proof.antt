@@ -1,9 +1,9 @@
 -- `boundary_whole` meets its contract.
 -- Assumes nothing.
 use borrow.Author.Tests.{eq-eqb, ne-eqb}
-use Rattle.soundness.proofs.Step.{beq-true}
-use Rattle.soundness.proofs.boundary_whole.Statement.{statement}
-use Rattle.soundness.proofs.boundary_whole.Tie as tie
+use Rattle.clauses.proofs.Laws.{beq-true}
+use Rattle.clauses.proofs.boundary_whole.Statement.{statement}
+use Rattle.clauses.proofs.boundary_whole.Tie as tie
 
 returns : tie.Need-returns
 returns c = simp (eq-eqb _ _ (c .before .if1 .taken), beq-true)

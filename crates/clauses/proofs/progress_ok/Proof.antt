@@ -1,8 +1,8 @@
 -- `progress_ok` meets its contract.
 -- Assumes nothing.
 use borrow.Author.Tests.{eq-eqb, ne-eqb}
-use Rattle.soundness.proofs.progress_ok.Statement.{statement}
-use Rattle.soundness.proofs.progress_ok.Tie as tie
+use Rattle.clauses.proofs.progress_ok.Statement.{statement}
+use Rattle.clauses.proofs.progress_ok.Tie as tie
 
 returns : tie.Need-returns
 returns c = simp (ne-eqb _ _ (c .if1 .taken))

@@ -4,8 +4,8 @@ use mathlib.Core.Path.{sym, _∙_}
 use borrow.Author.Tests.{not-true, not-false}
 use mathlib.Core.Bool.{and-true}
 use borrow.Author.Needs.{needs}
-use Rattle.soundness.proofs.lsns_ok.Statement.{statement}
-use Rattle.soundness.proofs.lsns_ok.Tie as tie
+use Rattle.clauses.proofs.lsns_ok.Statement.{statement}
+use Rattle.clauses.proofs.lsns_ok.Tie as tie
 
 lsn-ok-requires : tie.Need-lsn-ok-requires
 lsn-ok-requires c κs = search needs

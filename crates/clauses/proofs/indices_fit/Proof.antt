@@ -2,9 +2,9 @@
 -- Assumes nothing.
 use borrow.Author.Needs.{needs}
 use borrow.Author.Tests.{eq-eqb, ne-eqb}
-use Rattle.soundness.proofs.Step.{sum-fits, sum-over}
-use Rattle.soundness.proofs.indices_fit.Statement.{statement}
-use Rattle.soundness.proofs.indices_fit.Tie as tie
+use Rattle.clauses.proofs.Laws.{sum-fits, sum-over}
+use Rattle.clauses.proofs.indices_fit.Statement.{statement}
+use Rattle.clauses.proofs.indices_fit.Tie as tie
 
 sub-if1 : tie.Need-sub-if1
 sub-if1 c = search needs

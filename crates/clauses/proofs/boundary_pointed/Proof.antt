@@ -2,8 +2,8 @@
 -- Assumes nothing.
 use borrow.Author.Tests.{eq-eqb, ne-eqb}
 use borrow.Author.Needs.{needs}
-use Rattle.soundness.proofs.boundary_pointed.Statement.{statement}
-use Rattle.soundness.proofs.boundary_pointed.Tie as tie
+use Rattle.clauses.proofs.boundary_pointed.Statement.{statement}
+use Rattle.clauses.proofs.boundary_pointed.Tie as tie
 
 enum-known-pointer : tie.Need-enum-known-pointer
 enum-known-pointer c = search needs

@@ -1,8 +1,8 @@
 -- `vote_ok` meets its contract.
 -- Assumes nothing.
 use borrow.Author.Needs.{needs}
-use Rattle.soundness.proofs.vote_ok.Statement.{statement}
-use Rattle.soundness.proofs.vote_ok.Tie as tie
+use Rattle.clauses.proofs.vote_ok.Statement.{statement}
+use Rattle.clauses.proofs.vote_ok.Tie as tie
 
 enum-known-kept : tie.Need-enum-known-kept
 enum-known-kept c = search needs

@@ -1,8 +1,8 @@
 -- `identity_ok` meets its contract.
 -- Assumes nothing.
 use borrow.Author.Tests.{eq-eqb, ne-eqb}
-use Rattle.soundness.proofs.identity_ok.Statement.{statement}
-use Rattle.soundness.proofs.identity_ok.Tie as tie
+use Rattle.clauses.proofs.identity_ok.Statement.{statement}
+use Rattle.clauses.proofs.identity_ok.Tie as tie
 
 returns : tie.Need-returns
 returns c = simp (eq-eqb _ _ (c .if1 .taken))

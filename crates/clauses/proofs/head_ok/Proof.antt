@@ -2,10 +2,10 @@
 -- Assumes nothing.
 use mathlib.Core.Path.{sym, _∙_}
 use borrow.Author.Tests.{not-true, not-false, le-leb, lt-leb}
-use Rattle.soundness.specs.Sound.{headClauses}
+use Rattle.clauses.specs.Clauses.{headClauses}
 use borrow.Author.Needs.{needs}
-use Rattle.soundness.proofs.head_ok.Statement.{statement}
-use Rattle.soundness.proofs.head_ok.Tie as tie
+use Rattle.clauses.proofs.head_ok.Statement.{statement}
+use Rattle.clauses.proofs.head_ok.Tie as tie
 
 identity-ok-requires : tie.Need-identity-ok-requires
 identity-ok-requires c κs = search needs

@@ -5,10 +5,10 @@ use mathlib.Core.Bool.{and-true}
 use borrow.Author.Needs.{needs}
 use borrow.Author.Tests.{not-true, not-false, le-leb, lt-leb}
 use Rattle.store.specs.Zeros.{allZero}
-use Rattle.soundness.specs.Sound.{entryClauses}
-use Rattle.soundness.proofs.Step.{tail-is}
-use Rattle.soundness.proofs.entry_ok.Statement.{statement}
-use Rattle.soundness.proofs.entry_ok.Tie as tie
+use Rattle.clauses.specs.Clauses.{entryClauses}
+use Rattle.clauses.proofs.Laws.{tail-is}
+use Rattle.clauses.proofs.entry_ok.Statement.{statement}
+use Rattle.clauses.proofs.entry_ok.Tie as tie
 
 size-requires : tie.Need-size-requires
 size-requires c κs = search needs

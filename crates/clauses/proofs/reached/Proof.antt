@@ -1,8 +1,8 @@
 -- `reached` meets its contract.
 -- Assumes nothing.
 use borrow.Author.Needs.{needs}
-use Rattle.soundness.proofs.reached.Statement.{statement}
-use Rattle.soundness.proofs.reached.Tie as tie
+use Rattle.clauses.proofs.reached.Statement.{statement}
+use Rattle.clauses.proofs.reached.Tie as tie
 
 enum-known-last : tie.Need-enum-known-last
 enum-known-last c = search needs

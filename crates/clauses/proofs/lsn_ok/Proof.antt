@@ -2,8 +2,8 @@
 -- Assumes nothing.
 use mathlib.Core.Bool.{and-true}
 use borrow.Author.Needs.{needs}
-use Rattle.soundness.proofs.lsn_ok.Statement.{statement}
-use Rattle.soundness.proofs.lsn_ok.Tie as tie
+use Rattle.clauses.proofs.lsn_ok.Statement.{statement}
+use Rattle.clauses.proofs.lsn_ok.Tie as tie
 
 enum-known-lsn : tie.Need-enum-known-lsn
 enum-known-lsn c = search needs
