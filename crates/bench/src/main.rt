@@ -20,7 +20,6 @@ use ids::RaftReplicaIdentity;
 use ids::ReplicaId;
 use libc::STDIN_FILENO;
 use libc::STDOUT_FILENO;
-use recovery::finishing;
 use recovery::observing;
 use storage::RecoveredRaftStorage;
 ghost use Prim.Native.Nat.{_<_};

@@ -13,7 +13,6 @@ use codec::RecordBody;
 use codec::Vote;
 use codec::WalRecord;
 use ids::Lsn;
-use recovery::finishing;
 use recovery::observing;
 use storage::RecoveredRaftStorage;
 

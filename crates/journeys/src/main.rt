@@ -8,7 +8,6 @@ mod states;
 mod text;
 mod trying;
 
-use recovery::finishing;
 use recovery::observing;
 use storage::RecoveredRaftStorage;
 ghost use Prim.Native.Nat.{_<_};

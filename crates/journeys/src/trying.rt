@@ -2,8 +2,7 @@
 use crate::journal;
 use crate::same;
 use crate::text;
-use recovery::finishing;
-use recovery::finishing::FinishAnswer;
+use finishing::FinishAnswer;
 use recovery::observing;
 use replay::Observation;
 use storage::RecoveredRaftStorage;

@@ -6,7 +6,6 @@ mod journal;
 use journal::Ended;
 use journal::Stop;
 use libc::STDOUT_FILENO;
-use recovery::finishing;
 use storage::RecoveredRaftStorage;
 
 // The tables of what was recovered, finished.

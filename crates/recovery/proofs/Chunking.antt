@@ -27,11 +27,12 @@ use Rattle.storage.specs.Meaning.{recoveryOf}
 use Rattle.storage.specs.Finding.{foundAt}
 use Rattle.soundness.specs.Sound.{soundTest}
 use Rattle.recovery.specs.declared.observing.ObservedChunk.{ObservedChunk}
-use Rattle.recovery.specs.Observe.{scanRows, Stepped, stepped}
-use Rattle.recovery.specs.Runs.{indexIn, atMost, ranOf, Runs}
-use Rattle.recovery.proofs.Ready.{Ready, test-ready}
+use Rattle.routing.specs.Observe.{scanRows, Stepped, stepped}
+use Rattle.recovery.specs.Runs.{atMost, ranOf, Runs}
+use Rattle.routing.specs.Admits.{indexIn}
+use Rattle.routing.proofs.Ready.{Ready, test-ready}
 use Rattle.recovery.proofs.Running.{Running, running-start, running-takes, running-refused, running-same, running-end}
-use Rattle.recovery.proofs.Stepped.{stepped-is, stepped-ready, opened-again}
+use Rattle.routing.proofs.Stepped.{stepped-is, stepped-ready, opened-again}
 use Rattle.recovery.proofs.Turn.{fits-record}
 
 -- i of n records were taken, all accepted; t and u are the state and the store then, a the last answer.

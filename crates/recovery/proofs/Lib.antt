@@ -1,12 +1,5 @@
 pub mod Chunking
-pub mod Finishes
-pub mod Observe
 pub mod One
 pub mod Program
-pub mod Ready
-pub mod Route
-pub mod Routed
 pub mod Running
-pub mod Scanned
-pub mod Stepped
 pub mod Turn

@@ -16,9 +16,9 @@ use Rattle.storage.specs.Meaning.{recoveryOf}
 use Rattle.soundness.specs.Sound.{soundTest}
 use Rattle.recovery.specs.declared.observing.ObservedChunk.{ObservedChunk}
 use Rattle.recovery.specs.declared.observing.Observed.{Observed}
-use Rattle.recovery.specs.Observe.{Stepped, stepped, observedOf, Ran, ranBy, ranFrom, lastBy, lastAnswer}
+use Rattle.routing.specs.Observe.{Stepped, stepped, observedOf, Ran, ranBy, ranFrom, lastBy, lastAnswer}
 use Rattle.recovery.specs.Runs.{ranOf, stepOf, Runs, Observing}
-use Rattle.recovery.proofs.Observe.{unsound-observed}
+use Rattle.routing.proofs.Observe.{unsound-observed}
 
 -- What is left, without the number taken.
 abbrev leftOf : Ran → Stepped

@@ -23,10 +23,10 @@ use Rattle.storage.specs.Model.{freshStorage}
 use Rattle.storage.specs.Meaning.{meaning, recoveryOf}
 use Rattle.soundness.specs.Sound.{soundTest}
 use Rattle.soundness.proofs.Fresh.{fresh-recovery, fresh-test}
-use Rattle.recovery.specs.declared.finishing.Finished.{Finished}
-use Rattle.recovery.specs.declared.finishing.FinishAnswer.the-variants as F
-use Rattle.recovery.specs.Finishes.{finishedDone, unsoundDone}
-use Rattle.recovery.specs.Observe.{journalOf}
+use Rattle.finishing.specs.declared.Finished.{Finished}
+use Rattle.finishing.specs.declared.FinishAnswer.the-variants as F
+use Rattle.finishing.specs.Finishes.{finishedDone, unsoundDone}
+use Rattle.routing.specs.Observe.{journalOf}
 use Rattle.recovery.specs.Program.{Call, one, chunk, Kept, chunkRecords, recordsOf, answersOf, stateAfterCalls, storeAfterCalls, Recovers, ProgramAgrees}
 
 -- A record is counted once at most.

@@ -19,10 +19,10 @@ use Rattle.storage.specs.declared.RecoveredRaftStorage.{RecoveredRaftStorage}
 use Rattle.storage.specs.Meaning.{recoveryOf}
 use Rattle.soundness.specs.Sound.{soundTest}
 use Rattle.recovery.specs.declared.observing.ObservedChunk.{ObservedChunk}
-use Rattle.recovery.specs.Observe.{Stepped, stepped, Ran, ranBy, ranFrom, lastBy, lastAnswer, journalOf}
+use Rattle.routing.specs.Observe.{Stepped, stepped, Ran, ranBy, ranFrom, lastBy, lastAnswer, journalOf}
 use Rattle.recovery.specs.Runs.{ranOf, Runs}
 use Rattle.soundness.proofs.Sound.{test-sound}
-use Rattle.recovery.proofs.Ready.{Ready, ready-test}
+use Rattle.routing.proofs.Ready.{Ready, ready-test}
 
 -- i records more were taken before.
 abbrev pub later : ℕ → Ran → Ran

@@ -17,8 +17,8 @@ use Rattle.storage.specs.Finding.{foundIn, foundAt}
 use Rattle.storage.specs.Place.{ownersOf}
 use Rattle.storage.proofs.Place.{owners-set}
 use Rattle.storage.proofs.Finding.{Told, found-told, found-among}
-use Rattle.recovery.specs.Observe.{Stepped, Ran, onlyScanned, movedEntries, written, planAt, settledAt}
-use Rattle.recovery.proofs.Stepped.{owner-is, Drops, plan-drops, plan-keeps}
+use Rattle.routing.specs.Observe.{Stepped, Ran, onlyScanned, movedEntries, written, planAt, settledAt}
+use Rattle.routing.proofs.Stepped.{owner-is, Drops, plan-drops, plan-keeps}
 use mathlib.Core.List.{List, [], _∷_, _++_, append-assoc}
 use types.Run.{OneOf, miss}
 use denote.Enum.Declared.{tagOf}
@@ -56,7 +56,7 @@ use Rattle.replay.proofs.Written.{look-below}
 use Rattle.storage.specs.declared.Scan.{Scan}
 use Rattle.storage.specs.declared.RecoveredRaftStorage.{RecoveredRaftStorage}
 use Rattle.storage.specs.Meaning.{Linked}
-use Rattle.recovery.specs.Runs.{indexIn}
+use Rattle.routing.specs.Admits.{indexIn}
 
 -- A machine's record fits: its index is a 64-bit number.
 pub fits-record : (r : WalRecord) (lent : List ℕ) → indexIn (r .body) ≤ u64-max → fits (recordOf r lent) ≡ true

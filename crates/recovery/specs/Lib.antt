@@ -1,5 +1,2 @@
-pub mod Finishes
-pub mod Observe
 pub mod Program
 pub mod Runs
-pub mod Settle

@@ -16,12 +16,12 @@ use Rattle.replay.specs.Plan.{answerOf}
 use Rattle.storage.specs.declared.RecoveredRaftStorage.{RecoveredRaftStorage}
 use Rattle.storage.specs.Model.{freshStorage}
 use Rattle.storage.specs.Meaning.{meaning, recoveryOf}
-use Rattle.recovery.specs.declared.finishing.Finished.{Finished}
-use Rattle.recovery.specs.declared.finishing.FinishAnswer.the-variants as F
+use Rattle.finishing.specs.declared.Finished.{Finished}
+use Rattle.finishing.specs.declared.FinishAnswer.the-variants as F
 use Rattle.recovery.specs.declared.observing.ObservedChunk.{ObservedChunk}
 use Rattle.recovery.specs.declared.observing.Observed.{Observed}
-use Rattle.recovery.specs.Finishes.{Finishes}
-use Rattle.recovery.specs.Observe.{journalOf}
+use Rattle.finishing.specs.Finishes.{Finishes}
+use Rattle.routing.specs.Observe.{journalOf}
 use Rattle.recovery.specs.Runs.{chunkOf, Runs, Observing}
 
 -- A call, by what it was handed and what it left: one record, or a chunk.

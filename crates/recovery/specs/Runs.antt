@@ -3,51 +3,20 @@
 use mathlib.Core.Path.{_≡_}
 use mathlib.Core.Bool.{true, false, cond}
 use mathlib.Core.List.{List}
-use mathlib.Core.Option.{none, some}
 use Prim.Native.Nat.{ℕ, _<_}
 use lib.Dec.{ltb}
-use Rattle.definition.specs.Table.{first-of, u64-max}
-use Rattle.definition.specs.Records.{formRows}
+use Rattle.definition.specs.Table.{u64-max}
 use Rattle.definition.specs.Log as D
 use Rattle.definition.specs.Recovery.{out, sound, observe, refusalOf, Chunk, observeUntilRefused}
-use Rattle.ids.specs.Refusal.{numberOf}
-use Rattle.codec.specs.declared.RaftWalRecord.{RaftWalRecord}
-use Rattle.codec.specs.declared.RecordBody.{RecordBody}
-use Rattle.codec.specs.declared.RecordBody.the-variants as B
 use Rattle.codec.specs.declared.WalRecord.{WalRecord}
-use Rattle.codec.specs.Records.{kindOf, ownerOf, recordOf}
-use Rattle.replay.specs.Plan.{answerOf, indexOf}
-use Rattle.storage.specs.declared.Scan.{Scan}
+use Rattle.codec.specs.Records.{recordOf}
+use Rattle.replay.specs.Plan.{answerOf}
 use Rattle.storage.specs.declared.RecoveredRaftStorage.{RecoveredRaftStorage}
-use Rattle.storage.specs.Model.{scanNext}
 use Rattle.storage.specs.Meaning.{recoveryOf}
 use Rattle.soundness.specs.Sound.{soundTest}
-use Rattle.recovery.specs.declared.observing.Admission.{Admission}
-use Rattle.recovery.specs.declared.observing.Admission.the-variants as A
 use Rattle.recovery.specs.declared.observing.ObservedChunk.{ObservedChunk}
 use Rattle.recovery.specs.declared.observing.Observed.{Observed}
-use Rattle.recovery.specs.Observe.{scanRows, Stepped, observedOf, Ran, runOf, lastAnswer, journalOf}
-
--- A replica's record that is refused for its form.
-pub record Malformed (body : RecordBody) (lent : List ℕ) (n : ℕ) : Type 0 where
-  pub kind : RaftWalRecord
-  pub is : body ≡ B.Raft kind
-  pub row : first-of (formRows (ownerOf kind) (kindOf kind lent)) ≡ some n
-
--- What a record is before its replica is looked for: refused by 1 or 2; of no Raft kind; refused for its form; its replica's.
-abbrev pub Admitted : Admission → Scan → WalRecord → List ℕ → Type 0
-Admitted (A.Refused why) n r lent = first-of (scanRows n (r .lsn)) ≡ some (numberOf why)
-Admitted (A.Counted next) n r lent = (first-of (scanRows n (r .lsn)) ≡ none) × (next ≡ scanNext n (r .lsn)) × (r .body ≡ B.Foreign)
-Admitted (A.Malformed next why) n r lent =
-    (first-of (scanRows n (r .lsn)) ≡ none) × (next ≡ scanNext n (r .lsn)) × Malformed (r .body) lent (numberOf why)
-Admitted (A.Raft next k) n r lent =
-    (first-of (scanRows n (r .lsn)) ≡ none) × (next ≡ scanNext n (r .lsn)) × (r .body ≡ B.Raft k)
-    × (first-of (formRows (ownerOf k) (kindOf k lent)) ≡ none)
-
--- The index that a record looks at.
-abbrev pub indexIn : RecordBody → ℕ
-indexIn B.Foreign = 0
-indexIn (B.Raft k) = indexOf k
+use Rattle.routing.specs.Observe.{Stepped, observedOf, Ran, runOf, lastAnswer, journalOf}
 
 -- A count past 256 reads as 256.
 abbrev pub atMost : ℕ → ℕ

@@ -1,87 +1,13 @@
 // Observing: records of a journal, one or a chunk of them, each decided on small values and written in place.
-use codec::RaftWalRecord;
-use codec::RecordBody;
 use codec::WalRecord;
-use ids::Checked;
-use ids::Lsn;
 use ids::Refusal;
 use replay::Observation;
+use routing::Admission;
 use storage::Found;
 use storage::RecoveredRaftStorage;
-use storage::Scan;
-use view::MaybeLsn;
 ghost use mathlib.Core.Path.{_≡_};
-ghost use Prim.Native.Nat.{_<_};
 ghost use lib.ListN.{take};
-ghost use Rattle.definition.specs.Table.{first-of};
-ghost use Rattle.ids.specs.Refusal.{checkedOf};
-ghost use Rattle.storage.specs.Model.{scanNext};
-ghost use Rattle.recovery.specs.Observe.{scanRows};
-ghost use Rattle.recovery.specs.Runs.{Admitted, indexIn, atMost, Runs, Observing};
-
-// One more record was scanned.
-fn scan_next(scan: Scan, lsn: Lsn) -> Scan
-    requires { ⌜ scan .«scanned_records» < 18446744073709551615 ⌝ }
-    ensures { λ r. ⌜ r ≡ scanNext scan lsn ⌝ }
-{
-    Scan {
-        scanned_records: scan.scanned_records + 1,
-        last_scanned_lsn: MaybeLsn::Some(lsn),
-    }
-}
-
-// Whether a record may be scanned (1, where the count is at its end; 2).
-fn check_scan(scan: Scan, lsn: Lsn) -> Checked
-    ensures { λ r. ⌜ checkedOf r ≡ first-of (scanRows scan lsn) ⌝ }
-{
-    if u64::MAX <= scan.scanned_records {
-        return Checked::Refused(Refusal::Unsound);
-    }
-    let last = scan.last_scanned_lsn;
-    let MaybeLsn::Some(x) = last else {
-        return Checked::Ok;
-    };
-    if lsn.0 <= x.0 {
-        return Checked::Refused(Refusal::NonIncreasingWalLsn);
-    }
-    Checked::Ok
-}
-
-// What a record is before its replica is looked for, with the scan that counts it.
-pub enum Admission {
-    Refused(Refusal),
-    Counted(Scan),
-    Malformed(Scan, Refusal),
-    Raft(Scan, RaftWalRecord),
-}
-
-// A record of no Raft kind is counted and goes no further; a replica's is refused for its form, or goes to its replica.
-fn admit(scan: Scan, r: WalRecord, lent: &[u8]) -> Admission
-    ensures { λ a. ⌜ Admitted a scan r (now (lent .entry)) ⌝ }
-{
-    let lsn = r.lsn;
-    if let Checked::Refused(why) = check_scan(scan, lsn) {
-        return Admission::Refused(why);
-    }
-    let next = scan_next(scan, lsn);
-    let RecordBody::Raft(kind) = codec::raft_kind(r) else {
-        return Admission::Counted(next);
-    };
-    if let Checked::Refused(why) = codec::validate_form(kind, lent) {
-        return Admission::Malformed(next, why);
-    }
-    Admission::Raft(next, kind)
-}
-
-// The index that a record looks at.
-fn index_of(r: WalRecord) -> u64
-    ensures { λ x. ⌜ x ≡ indexIn (r .body) ⌝ }
-{
-    let RecordBody::Raft(kind) = codec::raft_kind(r) else {
-        return 0;
-    };
-    replay::index_of(kind)
-}
+ghost use Rattle.recovery.specs.Runs.{atMost, Runs, Observing};
 
 // How many records of a chunk were taken, the answer to the last one that was observed (a refusal where one ended it), and the
 // state then.
@@ -134,9 +60,9 @@ pub fn observe_records(
     while i < n {
         let r = records[i];
         let lsn = r.lsn;
-        let index = index_of(r);
+        let index = routing::index_of(r);
         let scan = t.scan;
-        match admit(scan, r, lent) {
+        match routing::admit(scan, r, lent) {
             Admission::Refused(why) => {
                 return ObservedChunk {
                     taken: i,

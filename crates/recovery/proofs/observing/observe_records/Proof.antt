@@ -14,7 +14,7 @@ use Rattle.storage.specs.Place.{ownersOf}
 use Rattle.placing.proofs.Moves.{entriesDown, down-none, entries-down-turn}
 use Rattle.recovery.proofs.Chunking.{Chunking, noRecord, most-is, chunk-size, chunk-at, runs-most, index-fits, chunk-start, chunk-end, chunk-takes, chunk-refused, chunk-opened, at-take, taken-length}
 use Rattle.recovery.proofs.Running.{runs-unsound}
-use Rattle.recovery.proofs.Stepped.{stepped-stale, stepped-foreign, stepped-malformed, stepped-full, stepped-held}
+use Rattle.routing.proofs.Stepped.{stepped-stale, stepped-foreign, stepped-malformed, stepped-full, stepped-held}
 use Rattle.recovery.proofs.Turn.{found-of, owners-kept, at-below, missing-within, scanned-by, place-is, place-before, look-in, refused-drops, settleable-at, settled-here, settled-moved, back-length, not-refused, lent-length, moved-fits, ran-answer}
 use Rattle.recovery.proofs.observing.observe_records.Statement.{statement}
 use Rattle.recovery.proofs.observing.observe_records.Tie as tie

@@ -8,7 +8,7 @@ use Rattle.definition.specs.Table.{first-of, u64-max}
 use Rattle.definition.proofs.Laws.{clear}
 use Rattle.ids.specs.declared.Lsn.{Lsn}
 use Rattle.storage.specs.declared.Scan.{Scan}
-use Rattle.recovery.specs.Observe.{scanRows}
+use Rattle.routing.specs.Observe.{scanRows}
 
 pub scan-room : (n : Scan) (l : Lsn) → first-of (scanRows n l) ≡ none → n .«scanned_records» < u64-max
 scan-room n l e = leb-false u64-max (n .«scanned_records») (clear (scanRows n l) e .0)

@@ -3,9 +3,9 @@
 use mathlib.Core.Path.{sym, ap, _∙_}
 use borrow.Author.Needs.{needs}
 use Rattle.ids.specs.Refusal.{checkedOf}
-use Rattle.recovery.proofs.Scanned.{scan-room}
-use Rattle.recovery.proofs.observing.admit.Statement.{statement}
-use Rattle.recovery.proofs.observing.admit.Tie as tie
+use Rattle.routing.proofs.Scanned.{scan-room}
+use Rattle.routing.proofs.admit.Statement.{statement}
+use Rattle.routing.proofs.admit.Tie as tie
 
 check-scan-requires : tie.Need-check-scan-requires
 check-scan-requires c κs = search needs

@@ -19,9 +19,9 @@ use Rattle.storage.specs.declared.RecoveredRaftStorage.{RecoveredRaftStorage}
 use Rattle.storage.specs.declared.Found.the-variants as F
 use Rattle.storage.specs.Model.{headAt, scanNext, scannedOnly, opened, openedStore}
 use Rattle.storage.specs.Meaning.{logAt, meaning, Linked, Step, Observes}
-use Rattle.recovery.specs.Settle.{Refuses, Accepts, Settles}
+use Rattle.routing.specs.Settle.{Refuses, Accepts, Settles}
 use Rattle.storage.proofs.Open.{new-log}
-use Rattle.recovery.proofs.Routed.{held-refused, held-accepted, full-observes, new-refused, new-accepted}
+use Rattle.routing.proofs.Routed.{held-refused, held-accepted, full-observes, new-refused, new-accepted}
 use Rattle.storage.proofs.Finding.{Told}
 
 module _ (s : RecoveredRaftStorage) (st : List ℕ) (l : Lsn) (k : Linked s st) (i : RaftReplicaIdentity) (b : Kind) (form : first-of (formRows (identityOf i) b) ≡ none) (p : ℕ) where

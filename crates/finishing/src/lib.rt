@@ -4,7 +4,7 @@ use storage::RecoveredRaftStorage;
 ghost use mathlib.Core.Path.{_≡_};
 ghost use Rattle.storage.specs.Model.{finishedStorage};
 ghost use Rattle.soundness.specs.Sound.{Limits};
-ghost use Rattle.recovery.specs.Finishes.{Finishes};
+ghost use Rattle.finishing.specs.Finishes.{Finishes};
 
 // What finishing is answered.
 pub enum FinishAnswer {

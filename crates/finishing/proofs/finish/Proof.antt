@@ -5,9 +5,9 @@ use borrow.Author.Needs.{needs}
 use borrow.Author.Tests.{not-true, not-false}
 use lib.ListN.{length-map, length}
 use Rattle.soundness.proofs.Sound.{test-sound}
-use Rattle.recovery.proofs.Finishes.{finishes-sound, finishes-unsound}
-use Rattle.recovery.proofs.finishing.finish.Statement.{statement}
-use Rattle.recovery.proofs.finishing.finish.Tie as tie
+use Rattle.finishing.proofs.Finishes.{finishes-sound, finishes-unsound}
+use Rattle.finishing.proofs.finish.Statement.{statement}
+use Rattle.finishing.proofs.finish.Tie as tie
 
 is-sound-requires : tie.Need-is-sound-requires
 is-sound-requires c κs = search needs

@@ -25,7 +25,7 @@ use Rattle.soundness.specs.Sound.{soundTest}
 use Rattle.soundness.proofs.Sound.{linked-test, test-linked, test-state}
 use Rattle.storage.specs.declared.Found.the-variants as F
 use Rattle.storage.proofs.Finding.{Told}
-use Rattle.recovery.proofs.Observe.{stale}
+use Rattle.routing.proofs.Observe.{stale}
 
 pub record Ready (s : RecoveredRaftStorage) (st : List ℕ) : Type 0 where
   pub linked : Linked s st

@@ -8,8 +8,8 @@ use Rattle.definition.specs.Log as D
 use Rattle.definition.specs.Recovery.{out, sound, finish}
 use Rattle.ids.specs.declared.Refusal.the-variants as R
 use Rattle.storage.specs.declared.RecoveredRaftStorage.{RecoveredRaftStorage}
-use Rattle.recovery.specs.declared.finishing.FinishAnswer.the-variants as F
-use Rattle.recovery.specs.declared.finishing.Finished.{Finished}
+use Rattle.finishing.specs.declared.FinishAnswer.the-variants as F
+use Rattle.finishing.specs.declared.Finished.{Finished}
 use Rattle.storage.specs.Model.{finishedStorage}
 use Rattle.storage.specs.Meaning.{recoveryOf}
 use Rattle.soundness.specs.Sound.{soundTest}

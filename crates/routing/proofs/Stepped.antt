@@ -50,13 +50,13 @@ use Rattle.storage.proofs.Place.{owner-at, stands, stands-one, opened-stands, o
 use Rattle.storage.specs.declared.Found.{Found}
 use Rattle.storage.specs.declared.Found.the-variants as F
 use Rattle.storage.specs.Finding.{foundAt}
-use Rattle.recovery.specs.Settle.{Settles}
-use Rattle.recovery.specs.Observe.{Stepped, scanRows, onlyScanned, movedEntries, planAt, settledAt, foundStep, formStep, bodyStep, scanStep, stepped}
+use Rattle.routing.specs.Settle.{Settles}
+use Rattle.routing.specs.Observe.{Stepped, scanRows, onlyScanned, movedEntries, planAt, settledAt, foundStep, formStep, bodyStep, scanStep, stepped}
 use Rattle.storage.proofs.Finding.{is-held, Told, found-told}
-use Rattle.recovery.proofs.Routed.{foreign-observes, form-observes}
-use Rattle.recovery.proofs.Route.{held-observes, full-is, new-observes}
-use Rattle.recovery.proofs.Ready.{Ready, ready-sound, observes-ready, opened-ready}
-use Rattle.recovery.proofs.Observe.{stale, unsound-observed, stale-observed, observed-is}
+use Rattle.routing.proofs.Routed.{foreign-observes, form-observes}
+use Rattle.routing.proofs.Route.{held-observes, full-is, new-observes}
+use Rattle.routing.proofs.Ready.{Ready, ready-sound, observes-ready, opened-ready}
+use Rattle.routing.proofs.Observe.{stale, unsound-observed, stale-observed, observed-is}
 
 -- What a plan that drops entries leaves of them.
 abbrev pub Drops : Header → Plan → Type 0

@@ -7,9 +7,9 @@ use borrow.Author.Needs.{needs}
 use lib.ListN.{length-map, length}
 use Rattle.view.specs.Model.{maximumTerm}
 use Rattle.storage.specs.Model.{headAt, entriesIn}
-use Rattle.recovery.proofs.Finishes.{largestLeft, largest-begin, largest-turn, largest-end, Finishing, finishing-start, finishing-short, finishing-turn, finishing-end}
-use Rattle.recovery.proofs.finishing.finish_all.Statement.{statement}
-use Rattle.recovery.proofs.finishing.finish_all.Tie as tie
+use Rattle.finishing.proofs.Finishes.{largestLeft, largest-begin, largest-turn, largest-end, Finishing, finishing-start, finishing-short, finishing-turn, finishing-end}
+use Rattle.finishing.proofs.finish_all.Statement.{statement}
+use Rattle.finishing.proofs.finish_all.Tie as tie
 
 abbrev Inv-loop2 : tie.InvT-loop2
 Inv-loop2 t j head m₀ q₀ m q =

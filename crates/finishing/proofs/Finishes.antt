@@ -15,14 +15,14 @@ use Rattle.view.specs.declared.RecoveredRaftLogEntry.{RecoveredRaftLogEntry}
 use Rattle.view.specs.Meaning.{noEntry}
 use Rattle.view.specs.Model.{largestOf, maximumTerm, finished}
 use Rattle.storage.specs.declared.RecoveredRaftStorage.{RecoveredRaftStorage}
-use Rattle.recovery.specs.declared.finishing.Finished.{Finished}
+use Rattle.finishing.specs.declared.Finished.{Finished}
 use Rattle.storage.specs.Model.{headAt, entriesIn, headed, finishedHead, finishedTo, finishedStorage}
 use Rattle.storage.specs.Meaning.{recoveryOf}
 use Rattle.soundness.specs.Sound.{soundTest, Limits}
-use Rattle.recovery.specs.Finishes.{finishedDone, unsoundDone, Finishes}
+use Rattle.finishing.specs.Finishes.{finishedDone, unsoundDone, Finishes}
 use Rattle.storage.proofs.Finish.{finish-none, finish-one, finish-next}
 use Rattle.soundness.proofs.Sound.{test-linked, test-state, test-sound}
-use Rattle.recovery.proofs.Observe.{unsound-finished, finished-is, finished-test}
+use Rattle.routing.proofs.Observe.{unsound-finished, finished-is, finished-test}
 
 -- The largest term so far, m, and those from place q on, of n.
 abbrev pub largestLeft : ℕ → List RecoveredRaftLogEntry → ℕ → ℕ → ℕ

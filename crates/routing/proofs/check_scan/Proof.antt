@@ -2,8 +2,8 @@
 -- Assumes nothing.
 use borrow.Author.Needs.{needs}
 use borrow.Author.Tests.{le-leb, lt-leb}
-use Rattle.recovery.proofs.observing.check_scan.Statement.{statement}
-use Rattle.recovery.proofs.observing.check_scan.Tie as tie
+use Rattle.routing.proofs.check_scan.Statement.{statement}
+use Rattle.routing.proofs.check_scan.Tie as tie
 
 returns : tie.Need-returns
 returns c = rw (le-leb _ _ (c .if1 .taken))

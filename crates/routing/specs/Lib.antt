@@ -1,0 +1,3 @@
+pub mod Observe
+pub mod Settle
+pub mod Admits
