@@ -69,6 +69,11 @@ MORE = [
     ('Batch', 'hardened', '(previewHardState i h v) concluded', 'v concluded'),
     ('Batch', 'concluded', 'previewed (hardStateBeforeLogTerm b was v ∷ []) v ok', 'ok v'),
     ('Batch', 'shownAs', 'some f ↦ ofBatch f (length bytes)', 'some f ↦ ofLog at (length bytes)'),
+    ('Batch', 'shownBytes', 'shownBytes store lent nothing = []', 'shownBytes store lent nothing = store'),
+    ('Batch', 'shownBytes', '(ofLog from n) = take n (drop from store)', '(ofLog from n) = take n (drop from lent)'),
+    ('Batch', 'shownBytes', '(ofLog from n) = take n (drop from store)', '(ofLog from n) = take from (drop n store)'),
+    ('Batch', 'shownBytes', '(ofBatch from n) = take n (drop from lent)', '(ofBatch from n) = take n (drop from store)'),
+    ('Batch', 'shownBytes', '(ofBatch from n) = take n (drop from lent)', '(ofBatch from n) = take from (drop n lent)'),
     ('Batch', 'supplied', 'if isSome later then later else', 'if not (isSome later) then later else'),
 ]
 
