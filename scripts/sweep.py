@@ -3,8 +3,8 @@
 
     scripts/sweep.py [--jobs N] [--only TEXT] [--list]
 
-Takes a copy of crates/definition with its definitions and computed tests alone (no proof, no claim proved), changes one line
-at a time, and checks the copy. A mutant counts as killed only where a computed test (T (..)) fails. One that is refused for
+Takes a copy of crates/definition with its definitions and computed tests alone (no proof, no claim proved), and the tests of
+crates/definition_stores beside them, changes one line at a time, and checks the copy. A mutant counts as killed only where a computed test (T (..)) fails. One that is refused for
 another reason is 'broken' and counts as nothing. Those alive must stand in scripts/sweep.equal, with the reason why they are
 equal. Prints a table by test; exit 0 only if none is alive or broken beyond that list.
 """
@@ -14,9 +14,10 @@ from queue import Queue
 
 top = os.path.dirname(os.path.dirname(os.path.abspath(__file__)))
 crate = os.path.join(top, 'crates/definition')
+stores = os.path.join(top, 'crates/definition_stores/specs/Stores.antt')
 FILES = ['Table', 'Records', 'Frontier', 'Log', 'Recovery', 'Batch']
 STAGES = [                  # files of tests, the quick ones first; a stage is run only on what the ones before leave alive
-    ['Refusals', 'Checks', 'Batches'], ['Effects', 'Soundness', 'Readers'], ['Starred', 'TwoLists'], ['Store'],
+    ['Refusals', 'Checks', 'Batches'], ['Effects', 'Soundness', 'Readers', 'Cells'], ['Starred', 'TwoLists'], ['Stores'],
 ]
 MACHINERY = {               # not rules: tables, options and lists, or what only the proofs and the store's laws speak of
     'Table': ['sameBytes', 'present', 'every', 'all-of', 'ifSome', 'isSome', 'orZero', 'unless', 'first-of', '_=?_', '_≠?_', '_<?_', '_≤?_', 'if_then_else_'],
@@ -200,6 +201,7 @@ def room():
             text = re.sub(r'(use ' + re.escape(module) + r'\.\{)([^}]*)\}', wider, text)
         open(path, 'w').write(text)
     os.rename(f'{where}/crates/definition/specs/Cases', f'{where}/kept')
+    open(f'{where}/kept/Stores.antt', 'w').write(open(stores).read().replace('Rattle.definition.specs.', 'Rattle.definition.specs.'))
     return where
 
 
@@ -219,9 +221,8 @@ def check(where):
 
 def tests():
     found = set()
-    for f in os.listdir(f'{crate}/specs/Cases'):
-        found |= set(re.findall(r'^([\w-]+) : T \(', open(f'{crate}/specs/Cases/{f}').read(), re.M))
-        found |= set(re.findall(r'^pub ([\w-]+) : T \(', open(f'{crate}/specs/Cases/{f}').read(), re.M))
+    for f in [f'{crate}/specs/Cases/{f}' for f in os.listdir(f'{crate}/specs/Cases')] + [stores]:
+        found |= set(re.findall(r'^(?:pub )?([\w-]+) : T \(', open(f).read(), re.M))
     return found
 
 
