@@ -1,10 +1,9 @@
 // Document 01's `recover`: a journal on standard input; on standard output the tables, the first refusal, or the first line that
 // cannot be read.
-mod input;
-mod journal;
-
 use journal::Ended;
 use journal::Stop;
+use journal::input;
+use journal::input::Window;
 use libc::STDOUT_FILENO;
 use storage::RecoveredRaftStorage;
 
@@ -29,12 +28,23 @@ fn print_refused(lsn: u64, number: u64) {
     io::write_all(STDOUT_FILENO, &out[..n]);
 }
 
-fn print(ended: Ended, store: &[u8]) {
+// A line behind the last record is one too many.
+fn behind(buffer: &mut [u8], window: Window) -> bool {
+    let taken = input::next_line(buffer, window);
+    taken.found
+}
+
+fn print(buffer: &mut [u8], ended: Ended, store: &[u8]) {
     let stop = ended.stop;
     match stop {
         Stop::Malformed(line) => print_malformed(line),
         Stop::Refused { lsn, number } => print_refused(lsn, number),
         Stop::None => {
+            let left = ended.window;
+            if behind(buffer, left) {
+                print_malformed(ended.line);
+                return;
+            }
             let state = ended.state;
             print_tables(state, store);
         }
@@ -47,5 +57,5 @@ fn main() {
     let mut lens = [0u8; 256];
     let mut store = [0u8; 32768];
     let ended = journal::recover(&mut buffer, &mut lent, &mut lens, &mut store);
-    print(ended, &store);
+    print(&mut buffer, ended, &store);
 }

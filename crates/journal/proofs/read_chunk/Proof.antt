@@ -6,8 +6,8 @@ use native.Mathlib.Omega.{arith}
 use mathlib.Core.Bool.{true≢false}
 use borrow.Author.Needs.{needs}
 use lib.ListN.{length}
-use Rattle.recover.proofs.journal.read_chunk.Statement.{statement}
-use Rattle.recover.proofs.journal.read_chunk.Tie as tie
+use Rattle.journal.proofs.read_chunk.Statement.{statement}
+use Rattle.journal.proofs.read_chunk.Tie as tie
 
 abbrev Inv-loop : tie.InvT-loop
 Inv-loop buffer₀ most commands lens records₀ w₀ n i₀ buffer records w i = (i ≤ n) × (length buffer ≡ length buffer₀)

@@ -1,11 +1,11 @@
--- `input::used` meets its contract.
+-- `journal::input::used` meets its contract.
 -- Assumes nothing.
 use mathlib.Core.Path.{sym}
 use native.Mathlib.Omega.{arith}
 use borrow.Author.Needs.{needs}
 use lib.Seq.{length-take-le}
-use Rattle.recover.proofs.input.used.Statement.{statement}
-use Rattle.recover.proofs.input.used.Tie as tie
+use Rattle.journal.proofs.input.used.Statement.{statement}
+use Rattle.journal.proofs.input.used.Tie as tie
 
 returns : tie.Need-returns
 returns c = (search needs, sym (length-take-le _ _ (search needs)))

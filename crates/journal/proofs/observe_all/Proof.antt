@@ -1,12 +1,12 @@
 -- `journal::observe_all` reads and writes inside its buffers, and ends.
 -- Assumes nothing.
-use mathlib.Core.Path.{_≡_, refl}
+use mathlib.Core.Path.{_≡_, refl, _∙_}
 use Prim.Native.Nat.{_-_, _≤_}
 use native.Mathlib.Omega.{arith}
-use borrow.Author.Needs.{needs}
 use lib.ListN.{length}
-use Rattle.recover.proofs.journal.observe_all.Statement.{statement}
-use Rattle.recover.proofs.journal.observe_all.Tie as tie
+use borrow.Author.Needs.{needs}
+use Rattle.journal.proofs.observe_all.Statement.{statement}
+use Rattle.journal.proofs.observe_all.Tie as tie
 
 abbrev Inv-loop : tie.InvT-loop
 Inv-loop buffer₀ most commands lent lens store₀ t₀ w₀ done₀ buffer store t w done = (done ≤ most) × (length buffer ≡ length buffer₀) × (length store ≡ length store₀)
@@ -38,11 +38,14 @@ lsn-at-requires c κs = search needs
 number-requires : tie.Need-number-requires Inv-loop μ-loop
 number-requires c κs = search needs
 
+stopped-requires : tie.Need-stopped-requires Inv-loop μ-loop
+stopped-requires c κs = search needs
+
 same-length : tie.Need-same-length Inv-loop μ-loop
-same-length c = search needs
+same-length c = c .before .before .before .before .before .before .before .before .before .before .before .before .before .before .before .read-chunk .kept .0 ∙ c .before .before .before .before .before .before .before .before .before .before .before .before .before .before .before .before .before .before .loop .inv .1
 
 same-length-2 : tie.Need-same-length-2 Inv-loop μ-loop
-same-length-2 c = search needs
+same-length-2 c = c .before .before .before .before .before .before .before .before .before .observe-records .kept .1 .1 .1 .1 .0 ∙ c .before .before .before .before .before .before .before .before .before .before .before .before .before .before .before .before .before .before .loop .inv .2
 
 returns : tie.Need-returns Inv-loop μ-loop
 returns c = tt
@@ -53,11 +56,14 @@ add-line-behind c = record { fits = omega (arith, c .before .before .before .bef
 line-behind-requires : tie.Need-line-behind-requires Inv-loop μ-loop
 line-behind-requires c κs = search needs
 
+stopped-requires-2 : tie.Need-stopped-requires-2 Inv-loop μ-loop
+stopped-requires-2 c κs = search needs
+
 same-length-3 : tie.Need-same-length-3 Inv-loop μ-loop
-same-length-3 c = search needs
+same-length-3 c = c .before .before .before .before .before .before .before .before .before .before .before .before .before .before .read-chunk .kept .0 ∙ c .before .before .before .before .before .before .before .before .before .before .before .before .before .before .before .before .before .loop .inv .1
 
 same-length-4 : tie.Need-same-length-4 Inv-loop μ-loop
-same-length-4 c = search needs
+same-length-4 c = c .before .before .before .before .before .before .before .before .observe-records .kept .1 .1 .1 .1 .0 ∙ c .before .before .before .before .before .before .before .before .before .before .before .before .before .before .before .before .before .loop .inv .2
 
 returns-2 : tie.Need-returns-2 Inv-loop μ-loop
 returns-2 c = tt
@@ -74,11 +80,11 @@ loop-less c =
 loop-again : tie.Need-loop-again Inv-loop μ-loop
 loop-again c = (omega (arith, c .before .before .before .before .before .before .before .before .before .before .before .before .read-chunk .ensures .0, c .before .before .before .before .before .before .before .before .before .before .before .before .before .before .loop-test .taken), search needs, search needs)
 
-next-line-requires : tie.Need-next-line-requires Inv-loop μ-loop
-next-line-requires c κs = search needs
-
 line-behind-requires-2 : tie.Need-line-behind-requires-2 Inv-loop μ-loop
 line-behind-requires-2 c κs = search needs
+
+stopped-requires-3 : tie.Need-stopped-requires-3 Inv-loop μ-loop
+stopped-requires-3 c κs = search needs
 
 same-length-5 : tie.Need-same-length-5 Inv-loop μ-loop
 same-length-5 c = search needs
@@ -88,15 +94,6 @@ same-length-6 c = search needs
 
 returns-3 : tie.Need-returns-3 Inv-loop μ-loop
 returns-3 c = tt
-
-same-length-7 : tie.Need-same-length-7 Inv-loop μ-loop
-same-length-7 c = search needs
-
-same-length-8 : tie.Need-same-length-8 Inv-loop μ-loop
-same-length-8 c = search needs
-
-returns-4 : tie.Need-returns-4 Inv-loop μ-loop
-returns-4 c = tt
 
 pub observe-all-spec : {M : Type 1} → statement M
 observe-all-spec =
@@ -112,22 +109,21 @@ observe-all-spec =
     enum-known-answer
     lsn-at-requires
     number-requires
+    stopped-requires
     same-length
     same-length-2
     returns
     add-line-behind
     line-behind-requires
+    stopped-requires-2
     same-length-3
     same-length-4
     returns-2
     add-done
     loop-less
     loop-again
-    next-line-requires
     line-behind-requires-2
+    stopped-requires-3
     same-length-5
     same-length-6
-    returns-3
-    same-length-7
-    same-length-8
-    returns-4)
+    returns-3)

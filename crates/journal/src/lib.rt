@@ -1,10 +1,12 @@
-// A journal from its first line to its end, or to the first line that is refused or cannot be read.
-use crate::input;
-use crate::input::Taken;
-use crate::input::Window;
+// A journal on standard input, from its first line to its last record, or to the first line that is refused or cannot be read.
+// What a read brings is not known to a contract: these functions promise that they end and stay inside their buffers.
+pub mod input;
+
 use codec::RecordBody;
 use codec::WalRecord;
 use ids::Lsn;
+use input::Taken;
+use input::Window;
 use recovery::observing;
 use replay::Observation;
 use storage::RecoveredRaftStorage;
@@ -16,16 +18,20 @@ ghost use mathlib.Core.Path.{_≡_};
 ghost use mathlib.Core.Bool.{false};
 ghost use Prim.Native.Nat.{_≤_, _<_};
 
-// Why reading stopped: at a line that cannot be read, at a refused record, or at the end.
+// Why reading stopped: at a line that cannot be read, at a refused record, or behind the last record.
 pub enum Stop {
     None,
     Malformed(u64),
     Refused { lsn: u64, number: u64 },
 }
 
+// What was recovered, and for who reads on: how many commands were given, what is left of the input, and the number of its next line.
 pub struct Ended {
     pub stop: Stop,
     pub state: RecoveredRaftStorage,
+    pub commands: usize,
+    pub window: Window,
+    pub line: u64,
 }
 
 // How many command lines were read, up to one that cannot be, and what is left of the input.
@@ -42,11 +48,31 @@ struct Chunk {
     window: Window,
 }
 
-fn stopped(stop: Stop) -> Ended {
+// A line that cannot be read, before any record.
+fn malformed(line: u64, window: Window) -> Ended {
     let state = RecoveredRaftStorage::fresh();
+    Ended {
+        stop: Stop::Malformed(line),
+        state: state,
+        commands: 0,
+        window: window,
+        line: line,
+    }
+}
+
+fn stopped(
+    stop: Stop,
+    state: RecoveredRaftStorage,
+    commands: usize,
+    window: Window,
+    line: u64,
+) -> Ended {
     Ended {
         stop: stop,
         state: state,
+        commands: commands,
+        window: window,
+        line: line,
     }
 }
 
@@ -144,7 +170,7 @@ fn line_behind(headers: u64, commands: usize, records: usize) -> u64 {
     std::num::wrapping_add_u64(std::num::wrapping_add_u64(headers, lines), 1)
 }
 
-// `most` records; a line behind theirs is one too many.
+// `most` records.
 fn observe_all(
     buffer: &mut [u8],
     window: Window,
@@ -169,32 +195,15 @@ fn observe_all(
                 lsn: lsn_at(records, d.taken),
                 number: why.number(),
             };
-            return Ended {
-                stop: stop,
-                state: t,
-            };
+            return stopped(stop, t, commands, w, 0);
         }
         if chunk.bad {
-            let stop = Stop::Malformed(line_behind(2, commands, done + chunk.count));
-            return Ended {
-                stop: stop,
-                state: t,
-            };
+            let line = line_behind(2, commands, done + chunk.count);
+            return stopped(Stop::Malformed(line), t, commands, w, line);
         }
         done = done + chunk.count;
     }
-    let behind = input::next_line(buffer, w);
-    if behind.found {
-        let stop = Stop::Malformed(line_behind(2, commands, most));
-        return Ended {
-            stop: stop,
-            state: t,
-        };
-    }
-    Ended {
-        stop: Stop::None,
-        state: t,
-    }
+    stopped(Stop::None, t, commands, w, line_behind(2, commands, most))
 }
 
 // The number of a header's line.
@@ -226,7 +235,7 @@ fn recover_records(
     let taken = input::next_line(buffer, window);
     let w = taken.window;
     let MaybeCount::Some(n) = records_in(taken) else {
-        return stopped(Stop::Malformed(line_behind(1, commands, 0)));
+        return malformed(line_behind(1, commands, 0), w);
     };
     observe_all(buffer, w, n as usize, commands, lent, lens, store)
 }
@@ -243,17 +252,17 @@ fn recover_commands(
     let commands = read_commands(buffer, window, n, lent, lens);
     let left = commands.window;
     if commands.read < n {
-        return stopped(Stop::Malformed(line_behind(1, commands.read, 0)));
+        return malformed(line_behind(1, commands.read, 0), left);
     }
     recover_records(buffer, left, n, &lent[..], &lens[..], store)
 }
 
-// A whole journal.
+// A journal: what stands behind its last record is left.
 pub fn recover(buffer: &mut [u8], lent: &mut [u8], lens: &mut [u8], store: &mut [u8]) -> Ended {
     let taken = input::next_line(buffer, input::start());
     let w = taken.window;
     let MaybeCount::Some(n) = commands_in(taken) else {
-        return stopped(Stop::Malformed(line_behind(0, 0, 0)));
+        return malformed(line_behind(0, 0, 0), w);
     };
     recover_commands(buffer, w, n as usize, lent, lens, store)
 }

@@ -4,8 +4,8 @@ use mathlib.Core.Path.{_≡_, refl}
 use Prim.Native.Nat.{_-_}
 use borrow.Author.Needs.{needs}
 use lib.ListN.{length}
-use Rattle.recover.proofs.journal.read_commands.Statement.{statement}
-use Rattle.recover.proofs.journal.read_commands.Tie as tie
+use Rattle.journal.proofs.read_commands.Statement.{statement}
+use Rattle.journal.proofs.read_commands.Tie as tie
 
 abbrev Inv-loop : tie.InvT-loop
 Inv-loop buffer₀ n lent₀ lens₀ most w₀ i₀ buffer lent lens w i = (length buffer ≡ length buffer₀) × (length lent ≡ length lent₀) × (length lens ≡ length lens₀)
