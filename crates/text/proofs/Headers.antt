@@ -37,7 +37,7 @@ module _ (l : Line) (done : List (List ℕ)) (f : List ℕ) (h : Holds l done f)
   abbrev all : List (List ℕ)
   all = done ++ (f ∷ [])
 
-  header-fields : length word ≤ 8 → every isByte word ≡ true → every isByte (nth 0 all) ≡ true → most ≤ u64-max
+  pub header-fields : length word ≤ 8 → every isByte word ≡ true → every isByte (nth 0 all) ≡ true → most ≤ u64-max
       → maybeCountOf (lineHeader l (length word) (packFrom 0 word) most) ≡ (if length all =? 2 && sameBytes (nth 0 all) word then number most (nth 1 all) else none)
   unfolding lineHeader
   header-fields s w b k = go (length done =? 1) refl (sameBytes (nth 0 all) word) refl

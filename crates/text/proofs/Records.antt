@@ -67,19 +67,19 @@ count-is l done f h n i = go (length done =? n) refl
         other false r q = let c = h .few (ltb-false 12 (length done) r) in eqb-false (length done) n p (omega arith)
 
 module _ {l : Line} {fs : List (List ℕ)} {n : ℕ} (r : Reads l fs n) where
-  num : (k : ℕ) → k < n → numberField (fieldAt l k) ≡ isNumber u64-max (nth k fs)
+  pub num : (k : ℕ) → k < n → numberField (fieldAt l k) ≡ isNumber u64-max (nth k fs)
   num k h = ap (λ (g : Field). numberField g) (r .at k h) ∙ number-is (nth k fs)
 
-  val : (k : ℕ) → k < n → fieldAt l k .value ≡ value u64-max (nth k fs)
+  pub val : (k : ℕ) → k < n → fieldAt l k .value ≡ value u64-max (nth k fs)
   val k h = ap (λ (g : Field). g .value) (r .at k h) ∙ value-is (nth k fs)
 
-  letter : (k b : ℕ) → k < n → letterField (fieldAt l k) b ≡ isLetter (nth k fs) b
+  pub letter : (k b : ℕ) → k < n → letterField (fieldAt l k) b ≡ isLetter (nth k fs) b
   letter k b h = ap (λ (g : Field). letterField g b) (r .at k h) ∙ letter-is (nth k fs) b
 
-  num-last : numberField (l .field) ≡ isNumber u64-max (nth n fs)
+  pub num-last : numberField (l .field) ≡ isNumber u64-max (nth n fs)
   num-last = ap (λ (g : Field). numberField g) (r .last) ∙ number-is (nth n fs)
 
-  val-last : l .field .value ≡ value u64-max (nth n fs)
+  pub val-last : l .field .value ≡ value u64-max (nth n fs)
   val-last = ap (λ (g : Field). g .value) (r .last) ∙ value-is (nth n fs)
 
   ver : 2 < n → versionField (fieldAt l 2) ≡ isNumber u32-max (nth 2 fs)
@@ -139,14 +139,14 @@ module _ (l : Line) (done : List (List ℕ)) (f : List ℕ) (h : Holds l done f)
           rw (c, n)
 
   -- a line of another number of fields
-  other : (n : ℕ) → (length done =? n) ≡ false → (length all =? n + 1) ≡ false
+  pub other : (n : ℕ) → (length done =? n) ≡ false → (length all =? n + 1) ≡ false
   other n p =
       let m : length all ≡ length done + 1 = length-append done (f ∷ []) in
       ne-eqb (length all) (n + 1) (λ q. eqb-false (length done) n p (omega arith))
 
   -- ---- H
 
-  if-vote : (x : Bool) (v : ℕ) → voteOf (if x then O.None else O.Some (record { 0 = v })) ≡ (if x then none else some v)
+  pub if-vote : (x : Bool) (v : ℕ) → voteOf (if x then O.None else O.Some (record { 0 = v })) ≡ (if x then none else some v)
   if-vote true v = refl
   if-vote false v = refl
 
@@ -238,11 +238,11 @@ module _ (l : Line) (done : List (List ℕ)) (f : List ℕ) (h : Holds l done f)
 
   -- ---- E
 
-  if-command : (x : Bool) (p : MaybePayload) (lent : List ℕ) → maybePayloadOf (if x then p else Q.None) lent ≡ (if x then maybePayloadOf p lent else none)
+  pub if-command : (x : Bool) (p : MaybePayload) (lent : List ℕ) → maybePayloadOf (if x then p else Q.None) lent ≡ (if x then maybePayloadOf p lent else none)
   if-command true p lent = refl
   if-command false p lent = refl
 
-  change-is : (g : Field) (w : List ℕ) → ((b : ℕ) → letterField g b ≡ isLetter w b) → (v v′ r r′ : ℕ) → v ≡ v′ → r ≡ r′ → (lent : List ℕ)
+  pub change-is : (g : Field) (w : List ℕ) → ((b : ℕ) → letterField g b ≡ isLetter w b) → (v v′ r r′ : ℕ) → v ≡ v′ → r ≡ r′ → (lent : List ℕ)
       → maybePayloadOf (changeOn g v r) lent ≡ changed (change w) v′ r′
   unfolding changeOn
   change-is g w t v v′ r r′ p q lent = go (isLetter w 65) refl (isLetter w 80) refl (isLetter w 82) refl

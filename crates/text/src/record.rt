@@ -37,7 +37,7 @@ pub enum MaybeCount {
 }
 
 // Whether a field is a number up to 2^64 - 1.
-fn is_number(f: Field) -> bool
+pub fn is_number(f: Field) -> bool
     ensures { λ r. ⌜ r ≡ numberField f ⌝ }
 {
     if f.len == 0 {
@@ -46,7 +46,7 @@ fn is_number(f: Field) -> bool
     f.decimal
 }
 
-fn are_numbers(a: Field, b: Field) -> bool
+pub fn are_numbers(a: Field, b: Field) -> bool
     ensures { λ r. ⌜ r ≡ (numberField a && numberField b) ⌝ }
 {
     if !is_number(a) {
@@ -56,7 +56,7 @@ fn are_numbers(a: Field, b: Field) -> bool
 }
 
 // Whether a field is a record's version: a number up to 2^32 - 1.
-fn is_version(f: Field) -> bool
+pub fn is_version(f: Field) -> bool
     ensures { λ r. ⌜ r ≡ versionField f ⌝ }
 {
     if !is_number(f) {
@@ -65,7 +65,7 @@ fn is_version(f: Field) -> bool
     f.value <= 4294967295
 }
 
-fn version_of(f: Field) -> u32
+pub fn version_of(f: Field) -> u32
     ensures { λ r. ⌜ r ≡ versionOf f ⌝ }
 {
     if f.value <= 4294967295 {
@@ -75,7 +75,7 @@ fn version_of(f: Field) -> u32
 }
 
 // Whether a field is this one letter.
-fn is_letter(f: Field, b: u64) -> bool
+pub fn is_letter(f: Field, b: u64) -> bool
     ensures { λ r. ⌜ r ≡ letterField f b ⌝ }
 {
     if f.len != 1 {
@@ -85,7 +85,7 @@ fn is_letter(f: Field, b: u64) -> bool
 }
 
 // Whether a field is 64 hex digits.
-fn is_sum(s: Sum) -> bool
+pub fn is_sum(s: Sum) -> bool
     ensures { λ r. ⌜ r ≡ sumField s ⌝ }
 {
     if s.len != 64 {
@@ -148,7 +148,7 @@ fn foreign_record(line: Line) -> WalRecord
 }
 
 // '-' for no vote, or a replica.
-fn vote_of(f: Field) -> Vote
+pub fn vote_of(f: Field) -> Vote
     ensures { λ r. ⌜ r ≡ voteOn f ⌝ }
 {
     if is_letter(f, 45) {
@@ -157,7 +157,7 @@ fn vote_of(f: Field) -> Vote
     Vote::Some(ReplicaId(f.value))
 }
 
-fn is_vote(f: Field) -> bool
+pub fn is_vote(f: Field) -> bool
     ensures { λ r. ⌜ r ≡ (letterField f 45 || numberField f) ⌝ }
 {
     if is_letter(f, 45) {
@@ -216,7 +216,7 @@ fn is_hard_state(line: Line) -> bool
 }
 
 // A count past 256 reads as 256.
-fn at_most(count: usize) -> usize
+pub fn at_most(count: usize) -> usize
     ensures { λ r. ⌜ r ≡ atMost256 count ⌝ }
 {
     if count < 256 {
@@ -226,7 +226,7 @@ fn at_most(count: usize) -> usize
 }
 
 // Command n, from 1: 65 bytes are kept for each.
-fn command_at(n: u64, count: usize, lens: &[u8]) -> MaybePayload
+pub fn command_at(n: u64, count: usize, lens: &[u8]) -> MaybePayload
     ensures { λ r. ⌜ r ≡ commandAt n count (now (lens .entry)) ⌝ }
 {
     if n < 1 {
@@ -249,7 +249,7 @@ fn command_at(n: u64, count: usize, lens: &[u8]) -> MaybePayload
 }
 
 // 'A' adds a learner, 'P' promotes, 'R' removes.
-fn change_of(f: Field, version: u64, replica: u64) -> MaybePayload
+pub fn change_of(f: Field, version: u64, replica: u64) -> MaybePayload
     ensures { λ r. ⌜ r ≡ changeOn f version replica ⌝ }
 {
     if is_letter(f, 65) {
@@ -428,7 +428,7 @@ pub fn record_of(line: Line, count: usize, lens: &[u8]) -> MaybeRecord
 }
 
 // The number behind a word of at most 8 bytes, up to `most`.
-fn header_of(line: Line, len: usize, head: u64, most: u64) -> MaybeCount
+pub fn header_of(line: Line, len: usize, head: u64, most: u64) -> MaybeCount
     ensures { λ r. ⌜ r ≡ lineHeader line len head most ⌝ }
 {
     if line.count != 1 {
