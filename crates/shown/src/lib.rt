@@ -104,7 +104,7 @@ fn show(own: Own, preview: Preview, entries: BatchEntries, index: u64) -> Shown
 }
 
 // A part of some bytes, as far as they reach.
-fn part(bytes: &[u8], at: usize, len: usize) -> &[u8]
+pub fn part(bytes: &[u8], at: usize, len: usize) -> &[u8]
     ensures { λ r. ⌜ now r ≡ take len (drop at (now (bytes .entry))) ⌝ }
 {
     let n = bytes.len();

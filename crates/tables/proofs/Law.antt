@@ -21,7 +21,7 @@ use Rattle.tables.specs.Model.{linesTo, sumTo, headLine, indexAt, lenOf,
 
 -- ---- lists by their places
 
-lines-first : (n : ℕ) (f : ℕ → List ℕ) → linesTo (suc n) f ≡ f 0 ++ linesTo n (λ i. f (suc i))
+pub lines-first : (n : ℕ) (f : ℕ → List ℕ) → linesTo (suc n) f ≡ f 0 ++ linesTo n (λ i. f (suc i))
 unfolding linesTo
 lines-first zero f = sym (append-nil (f 0))
 lines-first (suc n) f = ap (λ (l : List ℕ). l ++ f (suc n)) (lines-first n f) ∙ append-assoc (f 0) (linesTo n (λ i. f (suc i))) (f (suc n))

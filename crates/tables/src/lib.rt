@@ -18,7 +18,7 @@ ghost use Rattle.tables.specs.Tables.{decimal, row, voteField, hardField
 ghost use Rattle.tables.specs.Model.{linesTo, sumTo, headLine, headLines, indexAt, lenOf, logLines, tablesOf, Wrote, Printed};
 
 // All of `bytes` goes into `out` at a place; answers the place behind it.
-fn put_bytes(out: &mut [u8], at: usize, bytes: &[u8]) -> usize
+pub fn put_bytes(out: &mut [u8], at: usize, bytes: &[u8]) -> usize
     requires { ⌜ at + length (now bytes) ≤ length (now out) ⌝ }
     ensures { λ r. ⌜ Wrote (now (out .entry)) at (now (bytes .entry)) (length (now (bytes .entry))) r (now (out .exit)) ⌝ }
 {
@@ -27,7 +27,7 @@ fn put_bytes(out: &mut [u8], at: usize, bytes: &[u8]) -> usize
 }
 
 // A number and the byte that ends it.
-fn put_number(out: &mut [u8], at: usize, n: u64, end: u8) -> usize
+pub fn put_number(out: &mut [u8], at: usize, n: u64, end: u8) -> usize
     requires { ⌜ at + 21 ≤ length (now out) ⌝ }
     ensures { λ r. ⌜ Wrote (now (out .entry)) at (decimal n ++ (end ∷ [])) 21 r (now (out .exit)) ⌝ }
 {
@@ -59,7 +59,7 @@ fn put_vote(out: &mut [u8], at: usize, vote: Vote) -> usize
 }
 
 // Term, vote and commit, and the end of the line.
-fn put_hard_state(out: &mut [u8], at: usize, hard_state: HardState) -> usize
+pub fn put_hard_state(out: &mut [u8], at: usize, hard_state: HardState) -> usize
     requires { ⌜ at + 63 ≤ length (now out) ⌝ }
     ensures { λ r. ⌜ Wrote (now (out .entry)) at (row (hardFields (maybeHardStateOf (MaybeHardState.Some «hard_state»)))) 63 r (now (out .exit)) ⌝ }
 {
@@ -81,7 +81,7 @@ fn put_maybe_hard_state(out: &mut [u8], at: usize, kept: MaybeHardState) -> usiz
 }
 
 // Group and replica, a space behind each.
-fn put_identity(out: &mut [u8], at: usize, identity: RaftReplicaIdentity) -> usize
+pub fn put_identity(out: &mut [u8], at: usize, identity: RaftReplicaIdentity) -> usize
     requires { ⌜ at + 42 ≤ length (now out) ⌝ }
     ensures { λ r. ⌜ Wrote (now (out .entry)) at ((decimal (identityOf identity .group) ++ (32 ∷ [])) ++ (decimal (identityOf identity .replica) ++ (32 ∷ []))) 42 r (now (out .exit)) ⌝ }
 {
@@ -120,7 +120,7 @@ fn put_entry(
 }
 
 // n, and no more than a limit.
-fn at_most(n: usize, limit: usize) -> usize
+pub fn at_most(n: usize, limit: usize) -> usize
     ensures { λ r. ⌜ r ≡ min n limit ⌝ }
 {
     if limit < n {
