@@ -220,4 +220,5 @@ def main():
             print(name, escaped(answer), sep='\t', file=out)
 
 
-main()
+if __name__ == '__main__':
+    main()
