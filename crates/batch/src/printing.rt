@@ -5,7 +5,6 @@ use ids::RaftReplicaIdentity;
 use libc::STDOUT_FILENO;
 use persistence::PreparedBatch;
 use readers::ReadLsn;
-use recovery::finishing;
 use shown::Shown;
 use storage::RecoveredRaftStorage;
 use view::MaybeLsn;
