@@ -28,11 +28,16 @@ def journal():
     return '\n'.join(lines) + '\n'
 
 
-def ours(mode, digit):
-    """Seconds by the clock of 10 * digit rounds."""
+def seconds(program, said):
+    """By the clock."""
     before = time.perf_counter()
-    subprocess.run(['target/bin/bench'], input=f'{mode} {digit}\n'.encode(), stdout=subprocess.DEVNULL, check=True)
+    subprocess.run([f'target/bin/{program}'], input=said.encode(), stdout=subprocess.DEVNULL, check=True)
     return time.perf_counter() - before
+
+
+def ours(mode, digit):
+    """Of 10 * digit rounds."""
+    return seconds('bench', f'{mode} {digit}\n')
 
 
 def batches(oracle, runs):
@@ -41,7 +46,7 @@ def batches(oracle, runs):
     for _ in range(runs):
         said = subprocess.run([oracle + '-batch', '20000'], capture_output=True, text=True, check=True).stdout
         rust.append(float(re.search(r'([0-9.]+) us', said).group(1)))
-        prepared.append((ours(3, 9) - ours(3, 0)) * 1e6 / 9000)
+        prepared.append((seconds('bench_batch', '9\n') - seconds('bench_batch', '0\n')) * 1e6 / 9000)
     return statistics.median(rust), statistics.median(prepared)
 
 

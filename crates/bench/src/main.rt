@@ -1,28 +1,17 @@
 // A journal of 4,096 records on six replicas, made by rule (scripts/bench.py writes the same as text), and observed again and
 // again. Standard input has a mode and a digit N for 10 N rounds: '1 N' observes it in chunks and finishes, '2 N' by one call a
-// record. It prints the count of scanned records, summed over the rounds. '3 N' prepares a batch of 32 a hundred times a round, and
-// prints how many records were prepared.
-mod preparing;
-
+// record. It prints the count of scanned records, summed over the rounds.
 use codec::Checksum;
-use codec::DurableRaftEntryPayload;
-use codec::HardState;
-use codec::RaftHardStateRecord;
-use codec::RaftLogEntryRecord;
 use codec::RaftSnapshotPointerRecord;
 use codec::RaftWalRecord;
 use codec::RecordBody;
-use codec::Vote;
 use codec::WalRecord;
 use ids::Lsn;
-use ids::RaftGroupId;
 use ids::RaftReplicaIdentity;
-use ids::ReplicaId;
 use libc::STDIN_FILENO;
 use libc::STDOUT_FILENO;
 use recovery::observing;
 use storage::RecoveredRaftStorage;
-ghost use Prim.Native.Nat.{_<_};
 
 // The last index of each replica, and the command of its last entry.
 struct Replicas {
@@ -38,44 +27,6 @@ struct Making {
 
 struct Chunk {
     records: [WalRecord; 256],
-}
-
-fn identity(p: usize) -> RaftReplicaIdentity {
-    let group = 1 + (p % 6) / 2;
-    let replica = 1 + p % 2;
-    RaftReplicaIdentity {
-        raft_group_id: RaftGroupId(group as u64),
-        replica_id: ReplicaId(replica as u64),
-    }
-}
-
-// A command of 32 bytes, one of 256.
-fn entry(identity: RaftReplicaIdentity, index: u64, command: usize) -> RaftWalRecord {
-    let payload = DurableRaftEntryPayload::Normal {
-        place: 32 * (command % 256),
-        len: 32,
-    };
-    RaftWalRecord::Entry(RaftLogEntryRecord {
-        format_version: 1,
-        identity: identity,
-        index: index,
-        term: 1,
-        payload: payload,
-    })
-}
-
-fn hard_state(identity: RaftReplicaIdentity, commit: u64) -> RaftWalRecord {
-    let vote = Vote::Some(ReplicaId(3));
-    let kept = HardState {
-        current_term: 1,
-        voted_for: vote,
-        commit: commit,
-    };
-    RaftWalRecord::HardState(RaftHardStateRecord {
-        format_version: 1,
-        identity: identity,
-        hard_state: kept,
-    })
 }
 
 fn pointer(identity: RaftReplicaIdentity, index: u64) -> RaftWalRecord {
@@ -109,20 +60,20 @@ fn less(x: u64, n: u64) -> u64 {
 // Record k of a replica that last kept an index, with a command: of 40, the last is a pointer 5 below; of 4, the last is a hard
 // state; of 16, one repeats the last entry; the others append.
 fn made(p: usize, k: usize, last: u64, command: usize) -> RaftWalRecord {
-    let own = identity(p);
+    let own = bench_records::identity(p);
     if k % 40 == 39 {
         return pointer(own, less(last, 5));
     }
     if k % 4 == 3 {
-        return hard_state(own, less(last, 1));
+        return bench_records::hard_state(own, less(last, 1));
     }
     if k % 16 == 5 {
-        return entry(own, last, command);
+        return bench_records::entry(own, last, command);
     }
     if last < 1000000 {
-        return entry(own, last + 1, k);
+        return bench_records::entry(own, last + 1, k);
     }
-    entry(own, 1, k)
+    bench_records::entry(own, 1, k)
 }
 
 fn appends(k: usize) -> bool {
@@ -213,7 +164,7 @@ fn by_chunks(chunks: [Chunk; 16], rounds: u64, lent: &[u8], store: &mut [u8]) ->
         }
         let done = finishing::finish(t, &store[..]);
         let last = done.state;
-        sum = added(sum, last.scan.scanned_records);
+        sum = bench_records::added(sum, last.scan.scanned_records);
         k = k + 1;
     }
     sum
@@ -253,7 +204,7 @@ fn by_calls(chunks: [Chunk; 16], rounds: u64, lent: &[u8], store: &mut [u8]) -> 
         }
         let done = finishing::finish(t, &store[..]);
         let last = done.state;
-        sum = added(sum, last.scan.scanned_records);
+        sum = bench_records::added(sum, last.scan.scanned_records);
         k = k + 1;
     }
     sum
@@ -263,30 +214,7 @@ fn summed(mode: u8, chunks: [Chunk; 16], rounds: u64, lent: &[u8], store: &mut [
     if mode == b'2' {
         return by_calls(chunks, rounds, lent, store);
     }
-    if mode == b'3' {
-        return preparing::prepared(rounds, lent, store);
-    }
     by_chunks(chunks, rounds, lent, store)
-}
-
-// Ten rounds for each that a digit says.
-fn rounds_of(digit: u8) -> u64
-    ensures { λ r. ⌜ r < 100 ⌝ }
-{
-    if digit < 48 {
-        return 0;
-    }
-    if 57 < digit {
-        return 0;
-    }
-    10 * (digit - 48) as u64
-}
-
-fn added(a: u64, b: u64) -> u64 {
-    if b <= u64::MAX - a {
-        return a + b;
-    }
-    a
 }
 
 fn main() {
@@ -301,7 +229,7 @@ fn main() {
     let mut store = [0u8; 32768];
     let chunks = make_journal();
     let mode = input[0];
-    let rounds = rounds_of(input[2]);
+    let rounds = bench_records::rounds_of(input[2]);
     let sum = summed(mode, chunks, rounds, &lent, &mut store);
     io::print_decimal(STDOUT_FILENO, sum);
     io::write_all(STDOUT_FILENO, b"\n");

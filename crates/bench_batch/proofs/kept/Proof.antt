@@ -4,8 +4,8 @@ use Prim.Native.Nat.{_≤_, _-_}
 use mathlib.Core.Path.{_≡_}
 use lib.ListN.{length}
 use borrow.Author.Needs.{needs}
-use Rattle.bench.proofs.preparing.kept.Statement.{statement}
-use Rattle.bench.proofs.preparing.kept.Tie as tie
+use Rattle.bench_batch.proofs.kept.Statement.{statement}
+use Rattle.bench_batch.proofs.kept.Tie as tie
 
 abbrev Inv-loop : tie.InvT-loop
 Inv-loop lent store₀ t₀ i₀ store t i = (i ≤ 33) × (length store ≡ length store₀)

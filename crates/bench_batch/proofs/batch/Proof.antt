@@ -2,8 +2,8 @@
 -- Assumes nothing.
 use Prim.Native.Nat.{_≤_, _-_}
 use borrow.Author.Needs.{needs}
-use Rattle.bench.proofs.preparing.batch.Statement.{statement}
-use Rattle.bench.proofs.preparing.batch.Tie as tie
+use Rattle.bench_batch.proofs.batch.Statement.{statement}
+use Rattle.bench_batch.proofs.batch.Tie as tie
 
 abbrev Inv-loop : tie.InvT-loop
 Inv-loop commit index₀ i₀ index i = (i ≤ 32)

@@ -1,8 +1,6 @@
-// A replica that holds 32 entries of 32 bytes, and a batch of 32 more with a hard state, prepared again and again.
-use crate::added;
-use crate::entry;
-use crate::hard_state;
-use crate::identity;
+// A replica that holds 32 entries of 32 bytes, and a batch of 32 more with a hard state, prepared again and again. Standard input has
+// a digit N for 1,000 N times. It prints how many records were prepared. (A program of its own: with both jobs in one, what they
+// share is compiled in less well, and observing takes longer.)
 use batches::BatchEntries;
 use batches::RaftPersistenceBatch;
 use codec::HardState;
@@ -13,6 +11,8 @@ use codec::RecordBody;
 use codec::Vote;
 use codec::WalRecord;
 use ids::Lsn;
+use libc::STDIN_FILENO;
+use libc::STDOUT_FILENO;
 use recovery::observing;
 use storage::RecoveredRaftStorage;
 
@@ -37,10 +37,22 @@ fn kept(lent: &[u8], store: &mut [u8]) -> RecoveredRaftStorage {
     let mut t = RecoveredRaftStorage::fresh();
     let mut i: u64 = 1;
     while i < 33 {
-        t = observed(t, entry(identity(0), i, 0), i, lent, store);
+        t = observed(
+            t,
+            bench_records::entry(bench_records::identity(0), i, 0),
+            i,
+            lent,
+            store,
+        );
         i = i + 1;
     }
-    t = observed(t, hard_state(identity(0), 32), 33, lent, store);
+    t = observed(
+        t,
+        bench_records::hard_state(bench_records::identity(0), 32),
+        33,
+        lent,
+        store,
+    );
     let done = finishing::finish(t, &store[..]);
     let last = done.state;
     last
@@ -76,7 +88,7 @@ fn batch(commit: u64) -> RaftPersistenceBatch {
 }
 
 // A hundred preparations a round; the counts of their records, summed.
-pub fn prepared(rounds: u64, lent: &[u8], store: &mut [u8]) -> u64 {
+fn prepared(rounds: u64, lent: &[u8], store: &mut [u8]) -> u64 {
     let t = kept(lent, store);
     let first = batch(40);
     let mut pair = [first; 2];
@@ -87,10 +99,20 @@ pub fn prepared(rounds: u64, lent: &[u8], store: &mut [u8]) -> u64 {
     let mut n: usize = 0;
     while k < 100 * (rounds % 100) {
         let b = pair[n % 2];
-        let d = persistence::prepare_batch(t, &store[..], identity(0), b, lent);
-        sum = added(sum, d.count as u64);
+        let d = persistence::prepare_batch(t, &store[..], bench_records::identity(0), b, lent);
+        sum = bench_records::added(sum, d.count as u64);
         n = (n + 1) % 2;
         k = k + 1;
     }
     sum
+}
+
+fn main() {
+    let mut input = [0u8; 8];
+    let n = io::read_full(STDIN_FILENO, &mut input);
+    let lent = [90u8; 64];
+    let mut store = [0u8; 32768];
+    let sum = prepared(bench_records::rounds_of(input[0]), &lent, &mut store);
+    io::print_decimal(STDOUT_FILENO, sum);
+    io::write_all(STDOUT_FILENO, b"\n");
 }

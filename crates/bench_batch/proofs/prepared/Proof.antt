@@ -2,8 +2,8 @@
 -- Assumes nothing.
 use Prim.Native.Nat.{_≤_, _<_, _-_, _*_, _%_}
 use borrow.Author.Needs.{needs}
-use Rattle.bench.proofs.preparing.prepared.Statement.{statement}
-use Rattle.bench.proofs.preparing.prepared.Tie as tie
+use Rattle.bench_batch.proofs.prepared.Statement.{statement}
+use Rattle.bench_batch.proofs.prepared.Tie as tie
 
 abbrev Inv-loop : tie.InvT-loop
 Inv-loop rounds lent store t pair sum₀ k₀ n₀ sum k n = (k ≤ 100 * (rounds % 100)) × (rounds % 100 < 100) × (n < 2)
