@@ -3,7 +3,7 @@
 use mathlib.Core.Path.{_≡_, refl, sym, ap, subst, _∙_}
 use mathlib.Core.Bool.{Bool, true, false, cond}
 use mathlib.Core.List.{List, [], _∷_, map}
-use Prim.Native.Nat.{ℕ, zero, suc, _+_, _<_, _≤_}
+use Prim.Native.Nat.{ℕ, zero, suc, _<_, _≤_}
 use native.Mathlib.Omega.{arith}
 use borrow.Author.Tests.{eqb-true, eqb-false, ltb-true, ltb-false, le-leb, lt-leb}
 use lib.Dec.{ltb, eqb}
@@ -80,9 +80,9 @@ module _ (es : List BatchEntry) where
   push-over : (b : BatchEntries) (e : BatchEntry) → 32 ≤ b .count → 32 < pushed b e .count
   push-over b e l = subst (λ (t : Bool). 32 < cond t (counted b) (written b e) .count) (sym (le-leb 32 (b .count) l)) (go (ltb (b .count) u64-max) refl)
     where
-      go : (t : Bool) → ltb (b .count) u64-max ≡ t → 32 < cond t (record { count = b .count + 1; index = b .index; term = b .term; kind = b .kind; first = b .first; second = b .second }) b .count
-      go true e = omega arith
-      go false e = let q : u64-max ≤ b .count = ltb-false (b .count) u64-max e in omega arith
+      go : (t : Bool) → ltb (b .count) u64-max ≡ t → 32 < counted b .count
+      go true e = rw e (omega arith)
+      go false e = let q : u64-max ≤ b .count = ltb-false (b .count) u64-max e in rw e (omega arith)
 
   at-least : (n : ℕ) → 32 ≤ n → 32 ≤ loaded es n .count
   unfolding loaded
