@@ -1,3 +1,4 @@
 pub mod Commit
+pub mod Lending
 pub mod Loading
 pub mod Prepares

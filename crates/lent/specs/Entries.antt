@@ -11,11 +11,22 @@ use Rattle.codec.specs.declared.ConfChangeKind.the-variants as K
 use Rattle.codec.specs.declared.DurableRaftEntryPayload.{DurableRaftEntryPayload}
 use Rattle.codec.specs.declared.DurableRaftEntryPayload.the-variants as Y
 use Rattle.batches.specs.declared.BatchEntries.{BatchEntries}
+use Rattle.batches.specs.Meaning.{payloadFrom}
 use Rattle.lent.specs.declared.BatchEntry.{BatchEntry}
 
 -- What a read past the end of the list gives.
 abbrev pub noEntry : BatchEntry
 noEntry = record { index = 0; term = 0; payload = Y.Normal 0 0 }
+
+-- The entry at place i of the arrays; past place 32 a blank one.
+abbrev pub entryFrom : BatchEntries → ℕ → BatchEntry
+entryFrom b i =
+    cond (leb 32 i) noEntry
+    (record {
+      index = getD (b .index) i 0;
+      term = getD (b .term) i 0;
+      payload = payloadFrom (getD (b .kind) i 0) (getD (b .first) i 0) (getD (b .second) i 0);
+    })
 
 -- A payload by its three numbers, as batches' payloadNumbered reads them.
 abbrev pub changeNumber : ConfChangeKind → ℕ

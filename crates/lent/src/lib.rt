@@ -2,6 +2,7 @@
 use batches::BatchEntries;
 use batches::MAX_BATCH_ENTRIES;
 use batches::RaftPersistenceBatch;
+use batches::batch;
 use codec::ConfChangeKind;
 use codec::DurableRaftEntryPayload;
 use codec::MaybeHardState;
@@ -14,13 +15,14 @@ use storage::RecoveredRaftStorage;
 use view::Header;
 ghost use mathlib.Core.Path.{_≡_};
 ghost use mathlib.Core.List.{[], _∷_};
-ghost use Prim.Native.Nat.{_<_};
-ghost use lib.ListN.{length, getD};
+ghost use Prim.Native.Nat.{_<_, _≤_};
+ghost use lib.ListN.{length, getD, take};
 ghost use Rattle.definition.specs.Table.{first-of};
 ghost use Rattle.ids.specs.Refusal.{checkedOf};
+ghost use Rattle.view.specs.Tab.{tab};
 ghost use Rattle.persistence.specs.Answer.{PreparesBatch};
 ghost use Rattle.lent.specs.Commit.{commitRow, advancedTo, AdvancesCommit};
-ghost use Rattle.lent.specs.Entries.{noEntry, noEntries, changeNumber, kindNumber, firstNumber, secondNumber, counted, pushed, loaded};
+ghost use Rattle.lent.specs.Entries.{noEntry, entryFrom, noEntries, changeNumber, kindNumber, firstNumber, secondNumber, counted, pushed, loaded};
 ghost use Rattle.lent.specs.Batch.{batchWith, PreparesList};
 
 // Whether a commit may be advanced to (38).
@@ -57,6 +59,42 @@ pub struct BatchEntry {
     pub index: u64,
     pub term: u64,
     pub payload: DurableRaftEntryPayload,
+}
+
+// Entry i of a batch of the replica; past place 32 a blank one.
+fn entry_at(b: BatchEntries, i: usize, identity: RaftReplicaIdentity) -> BatchEntry
+    ensures { λ r. ⌜ r ≡ entryFrom b i ⌝ }
+{
+    if MAX_BATCH_ENTRIES <= i {
+        let blank = DurableRaftEntryPayload::Normal { place: 0, len: 0 };
+        return BatchEntry {
+            index: 0,
+            term: 0,
+            payload: blank,
+        };
+    }
+    let e = batch::record_at(b, i, identity);
+    let payload = e.payload;
+    BatchEntry {
+        index: e.index,
+        term: e.term,
+        payload: payload,
+    }
+}
+
+// Arrays of numbers as a list.
+pub fn listed(b: BatchEntries, identity: RaftReplicaIdentity) -> [BatchEntry; 64]
+    ensures { λ r. ⌜ r ≡ tab 64 (entryFrom b) ⌝ }
+{
+    let first = entry_at(b, 0, identity);
+    let mut list = [first; 64];
+    let mut i: usize = 0;
+    while i < 64 {
+        let e = entry_at(b, i, identity);
+        list[i] = e;
+        i = i + 1;
+    }
+    list
 }
 
 // The numbers by which BatchEntries has a payload.
@@ -212,4 +250,29 @@ pub fn prepare_batch(
 {
     let b = load(entries);
     prepare_entries(state, store, identity, snapshot, b, hard_state, lent)
+}
+
+// The same of the first n of an array, which are lent as a list.
+pub fn prepare_first(
+    state: RecoveredRaftStorage,
+    store: &[u8],
+    identity: RaftReplicaIdentity,
+    snapshot: MaybePointer,
+    entries: [BatchEntry; 64],
+    n: usize,
+    hard_state: MaybeHardState,
+    lent: &[u8],
+) -> PreparedBatch
+    requires { ⌜ n ≤ 64 ⌝ }
+    ensures { λ r. ⌜ PreparesList state (now (store .entry)) identity snapshot (take n entries) «hard_state» (now (lent .entry)) r ⌝ }
+{
+    prepare_batch(
+        state,
+        store,
+        identity,
+        snapshot,
+        &entries[..n],
+        hard_state,
+        lent,
+    )
 }
