@@ -8,7 +8,6 @@ use readers::ReadLsn;
 use shown::Shown;
 use storage::RecoveredRaftStorage;
 use view::MaybeLsn;
-ghost use Prim.Native.Nat.{_≤_};
 
 pub fn print_malformed(line: u64) {
     let mut out = [0u8; 65536];
@@ -96,32 +95,6 @@ fn finished(state: RecoveredRaftStorage, store: &[u8], finish: bool) -> Recovere
     done.state
 }
 
-// The lines have at most 64 entries; of more than 32 a batch is refused whatever they are.
-fn at_most_64(count: usize) -> usize
-    ensures { λ r. ⌜ r ≤ 64 ⌝ }
-{
-    if 64 < count {
-        return 64;
-    }
-    count
-}
-
-// The batch, its entries lent as a list of records.
-fn prepared(
-    state: RecoveredRaftStorage,
-    store: &[u8],
-    identity: RaftReplicaIdentity,
-    batch: RaftPersistenceBatch,
-    lent: &[u8],
-) -> PreparedBatch {
-    let entries = batch.entries;
-    let list = lent::listed(entries, identity);
-    let n = at_most_64(entries.count);
-    let snapshot = batch.snapshot;
-    let hard_state = batch.hard_state;
-    lent::prepare_first(state, store, identity, snapshot, list, n, hard_state, lent)
-}
-
 pub fn print_answer<'a>(
     recovered: RecoveredRaftStorage,
     asked: Asked,
@@ -135,8 +108,8 @@ pub fn print_answer<'a>(
     let identity = asked.identity;
     let given = asked.given;
     let batch = given.batch;
-    let answer = prepared(state, store, identity, batch, lent);
-    print_prepared(answer, commands, lens, lent);
+    let prepared = lent::prepare_listed(state, store, identity, batch, lent);
+    print_prepared(prepared, commands, lens, lent);
     print_shows(state, store, asked, lent, shows);
     print_minimum(minimum(state, store, identity));
 }

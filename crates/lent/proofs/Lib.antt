@@ -1,4 +1,5 @@
 pub mod Commit
 pub mod Lending
+pub mod Listing
 pub mod Loading
 pub mod Prepares

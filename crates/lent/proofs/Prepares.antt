@@ -53,11 +53,11 @@ on-over i b was l =
     refused-by (M.batchRows i b was) (record { log = was; lsn = orZero (λ t. t) (was .lastReplayedLsn); records = [] }) (M.pointed i b was (b .snapshot)) (overNumber i)
     (over-first (i .group =? 0) (i .replica =? 0) (32 <? length (b .entries)) (M.snapshotWithoutHardState b ∷ []) (lt-ltb 32 (length (b .entries)) l))
 
-overFrom : Result (Log ℕ) → D.Identity → ℕ
+pub overFrom : Result (Log ℕ) → D.Identity → ℕ
 overFrom (ok was) i = overNumber i
 overFrom (refusal n) i = n
 
-prepare-over : (w : Recovery) (i : D.Identity) (b : M.Batch) → 32 < length (b .entries) → M.prepare w i b ≡ refusal (overFrom (ask (replicaOf i) w) i)
+pub prepare-over : (w : Recovery) (i : D.Identity) (b : M.Batch) → 32 < length (b .entries) → M.prepare w i b ≡ refusal (overFrom (ask (replicaOf i) w) i)
 unfolding M.prepare overFrom
 prepare-over w i b l = go (ask (replicaOf i) w)
   where
@@ -68,6 +68,10 @@ prepare-over w i b l = go (ask (replicaOf i) w)
 -- A refusal is no list of records.
 no-refusal : {A : Type 0} {a : A} {n : ℕ} → ok a ≡ refusal n → ⊥
 no-refusal e = let z : _≡_ {A = ℕ} 0 1 = cc in omega arith
+
+pub not-ready : (lent : List ℕ) {n : ℕ} (r : PreparedBatch) → answerOf lent r ≡ refusal n → r .answer ≡ P.Ready → ⊥
+unfolding answerOf
+not-ready lent r e q = no-refusal (sym (ap (λ (a : Prepared). answeredAs (preparedOf a) (bodiesOf lent (take (r .count) (r .records)))) q) ∙ e)
 
 module _ (s : RecoveredRaftStorage) (st : List ℕ) (d : RaftReplicaIdentity) (snapshot : MaybePointer) (es : List BatchEntry) (hard : MaybeHardState) (lent : List ℕ) where
   abbrev batch : RaftPersistenceBatch
@@ -114,9 +118,7 @@ module _ (s : RecoveredRaftStorage) (st : List ℕ) (d : RaftReplicaIdentity) (s
       go false u = k .refused u
 
   over-answer : {n : ℕ} (r : PreparedBatch) → answerOf lent r ≡ refusal n → (a : Prepared) → r .answer ≡ a → answerWith a d batch ≡ answerOver a d snapshot es hard
-  unfolding answerOf
-  over-answer {n} r e P.Ready q =
-      absurd (no-refusal (sym (ap (λ (a : Prepared). answeredAs (preparedOf a) (bodiesOf lent (take (r .count) (r .records)))) q) ∙ e))
+  over-answer r e P.Ready q = absurd (not-ready lent r e q)
   over-answer r e (P.Refused why) q = refl
 
   over-list : 32 < length es → {r : PreparedBatch} → PreparesBatch s st d batch lent r → PreparesList s st d snapshot es hard lent r

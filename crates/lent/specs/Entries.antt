@@ -19,14 +19,16 @@ abbrev pub noEntry : BatchEntry
 noEntry = record { index = 0; term = 0; payload = Y.Normal 0 0 }
 
 -- The entry at place i of the arrays; past place 32 a blank one.
-abbrev pub entryFrom : BatchEntries → ℕ → BatchEntry
-entryFrom b i =
-    cond (leb 32 i) noEntry
-    (record {
+abbrev pub entryIn : BatchEntries → ℕ → BatchEntry
+entryIn b i =
+    record {
       index = getD (b .index) i 0;
       term = getD (b .term) i 0;
       payload = payloadFrom (getD (b .kind) i 0) (getD (b .first) i 0) (getD (b .second) i 0);
-    })
+    }
+
+abbrev pub entryFrom : BatchEntries → ℕ → BatchEntry
+entryFrom b i = cond (leb 32 i) noEntry (entryIn b i)
 
 -- A payload by its three numbers, as batches' payloadNumbered reads them.
 abbrev pub changeNumber : ConfChangeKind → ℕ

@@ -14,8 +14,10 @@ use persistence::PreparedBatch;
 use storage::RecoveredRaftStorage;
 use view::Header;
 ghost use mathlib.Core.Path.{_≡_};
+ghost use mathlib.Core.Bool.{cond};
 ghost use mathlib.Core.List.{[], _∷_};
 ghost use Prim.Native.Nat.{_<_, _≤_};
+ghost use lib.Dec.{ltb};
 ghost use lib.ListN.{length, getD, take};
 ghost use Rattle.definition.specs.Table.{first-of};
 ghost use Rattle.ids.specs.Refusal.{checkedOf};
@@ -59,42 +61,6 @@ pub struct BatchEntry {
     pub index: u64,
     pub term: u64,
     pub payload: DurableRaftEntryPayload,
-}
-
-// Entry i of a batch of the replica; past place 32 a blank one.
-fn entry_at(b: BatchEntries, i: usize, identity: RaftReplicaIdentity) -> BatchEntry
-    ensures { λ r. ⌜ r ≡ entryFrom b i ⌝ }
-{
-    if MAX_BATCH_ENTRIES <= i {
-        let blank = DurableRaftEntryPayload::Normal { place: 0, len: 0 };
-        return BatchEntry {
-            index: 0,
-            term: 0,
-            payload: blank,
-        };
-    }
-    let e = batch::record_at(b, i, identity);
-    let payload = e.payload;
-    BatchEntry {
-        index: e.index,
-        term: e.term,
-        payload: payload,
-    }
-}
-
-// Arrays of numbers as a list.
-pub fn listed(b: BatchEntries, identity: RaftReplicaIdentity) -> [BatchEntry; 64]
-    ensures { λ r. ⌜ r ≡ tab 64 (entryFrom b) ⌝ }
-{
-    let first = entry_at(b, 0, identity);
-    let mut list = [first; 64];
-    let mut i: usize = 0;
-    while i < 64 {
-        let e = entry_at(b, i, identity);
-        list[i] = e;
-        i = i + 1;
-    }
-    list
 }
 
 // The numbers by which BatchEntries has a payload.
@@ -253,7 +219,7 @@ pub fn prepare_batch(
 }
 
 // The same of the first n of an array, which are lent as a list.
-pub fn prepare_first(
+fn prepare_first(
     state: RecoveredRaftStorage,
     store: &[u8],
     identity: RaftReplicaIdentity,
@@ -275,4 +241,68 @@ pub fn prepare_first(
         hard_state,
         lent,
     )
+}
+
+// Entry i of a batch of the replica; past place 32 a blank one.
+fn entry_at(b: BatchEntries, i: usize, identity: RaftReplicaIdentity) -> BatchEntry
+    ensures { λ r. ⌜ r ≡ entryFrom b i ⌝ }
+{
+    if MAX_BATCH_ENTRIES <= i {
+        let blank = DurableRaftEntryPayload::Normal { place: 0, len: 0 };
+        return BatchEntry {
+            index: 0,
+            term: 0,
+            payload: blank,
+        };
+    }
+    let e = batch::record_at(b, i, identity);
+    let payload = e.payload;
+    BatchEntry {
+        index: e.index,
+        term: e.term,
+        payload: payload,
+    }
+}
+
+// The arrays of numbers as a list.
+fn listed(b: BatchEntries, identity: RaftReplicaIdentity) -> [BatchEntry; 64]
+    ensures { λ r. ⌜ r ≡ tab 64 (entryFrom b) ⌝ }
+{
+    let first = entry_at(b, 0, identity);
+    let mut list = [first; 64];
+    let mut i: usize = 0;
+    while i < 64 {
+        let e = entry_at(b, i, identity);
+        list[i] = e;
+        i = i + 1;
+    }
+    list
+}
+
+// As many entries as an array has; of more than 32 a batch is refused whatever they are.
+fn at_most_64(count: usize) -> usize
+    ensures { λ r. ⌜ r ≡ cond (ltb 64 count) 64 count ⌝ }
+{
+    if 64 < count {
+        return 64;
+    }
+    count
+}
+
+// A batch of a replica, its entries lent as a list.
+pub fn prepare_listed(
+    state: RecoveredRaftStorage,
+    store: &[u8],
+    identity: RaftReplicaIdentity,
+    batch: RaftPersistenceBatch,
+    lent: &[u8],
+) -> PreparedBatch
+    ensures { λ r. ⌜ PreparesBatch state (now (store .entry)) identity batch (now (lent .entry)) r ⌝ }
+{
+    let entries = batch.entries;
+    let list = listed(entries, identity);
+    let n = at_most_64(entries.count);
+    let snapshot = batch.snapshot;
+    let hard_state = batch.hard_state;
+    prepare_first(state, store, identity, snapshot, list, n, hard_state, lent)
 }
