@@ -7,7 +7,7 @@ ORACLE-BATCH answers as `batch` does. A line is a name, the text and the answer,
 `printf %b` (`\\c` for the empty text).
 """
 import subprocess, sys
-from texts import PAST, SUM, escaped, journal
+from texts import PAST, SUM, escaped, faults, journal
 
 TOP = str(2**64 - 1)
 COMMANDS = ('41', '4242', '43' * 65, '', '41', 'AbCd')
@@ -51,19 +51,7 @@ def each_field():
         ('show', SHOW, ['E 6 2 N 2'], []),
     )
     for name, line, before, behind in around:
-        def text(fields):
-            return ask([*before, ' '.join(fields), *behind])
-        yield f'{name}-whole', text(line)
-        yield f'{name}-one-more', text(line + ['1'])
-        yield f'{name}-other-case', text([line[0].swapcase()] + line[1:])
-        for i in range(len(line)):
-            yield f'{name}-without-{i}', text(line[:i] + line[i + 1:])
-            yield f'{name}-empty-{i}', text(line[:i] + [''] + line[i + 1:])
-            yield f'{name}-spoilt-{i}', text(line[:i] + [line[i] + 'x'] + line[i + 1:])
-            if line[i].isdigit() and len(line[i]) < 64:
-                yield f'{name}-past-range-{i}', text(line[:i] + [PAST] + line[i + 1:])
-                yield f'{name}-leading-zeros-{i}', text(line[:i] + ['000' + line[i]] + line[i + 1:])
-                yield f'{name}-signed-{i}', text(line[:i] + ['+' + line[i]] + line[i + 1:])
+        yield from faults(name, line, lambda fields: ask([*before, ' '.join(fields), *behind]), 'other-case')
 
 
 def heads():

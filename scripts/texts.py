@@ -23,22 +23,26 @@ def journal(records, commands=('41',), more=''):
     return '\n'.join(lines) + '\n' + more
 
 
+def faults(name, line, text, cased):
+    """A line's fields as they are, one more, the first in the other case (called `cased`), and each left out, emptied, spoilt, past its
+    range, with leading zeros or signed."""
+    yield f'{name}-whole', text(line)
+    yield f'{name}-one-more', text(line + ['1'])
+    yield f'{name}-{cased}', text([line[0].swapcase()] + line[1:])
+    for i in range(len(line)):
+        yield f'{name}-without-{i}', text(line[:i] + line[i + 1:])
+        yield f'{name}-empty-{i}', text(line[:i] + [''] + line[i + 1:])
+        yield f'{name}-spoilt-{i}', text(line[:i] + [line[i] + 'x'] + line[i + 1:])
+        if line[i].isdigit() and len(line[i]) < 64:
+            yield f'{name}-past-range-{i}', text(line[:i] + [PAST] + line[i + 1:])
+            yield f'{name}-leading-zeros-{i}', text(line[:i] + ['000' + line[i]] + line[i + 1:])
+            yield f'{name}-signed-{i}', text(line[:i] + ['+' + line[i]] + line[i + 1:])
+
+
 def each_field():
-    """Each line with a field left out, emptied, spoilt, signed or past its range, and with one field more."""
+    """Each line, its fields spoilt one by one."""
     for name, line in ('entry', ENTRY), ('change', CHANGE), ('hard', HARD), ('pointer', POINTER), ('foreign', FOREIGN):
-        def text(fields):
-            return journal([' '.join(fields)])
-        yield f'{name}-whole', text(line)
-        yield f'{name}-one-more', text(line + ['1'])
-        yield f'{name}-small-letter', text([line[0].lower()] + line[1:])
-        for i in range(len(line)):
-            yield f'{name}-without-{i}', text(line[:i] + line[i + 1:])
-            yield f'{name}-empty-{i}', text(line[:i] + [''] + line[i + 1:])
-            yield f'{name}-spoilt-{i}', text(line[:i] + [line[i] + 'x'] + line[i + 1:])
-            if line[i].isdigit() and len(line[i]) < 64:
-                yield f'{name}-past-range-{i}', text(line[:i] + [PAST] + line[i + 1:])
-                yield f'{name}-leading-zeros-{i}', text(line[:i] + ['000' + line[i]] + line[i + 1:])
-                yield f'{name}-signed-{i}', text(line[:i] + ['+' + line[i]] + line[i + 1:])
+        yield from faults(name, line, lambda fields: journal([' '.join(fields)]), 'small-letter')
 
 
 def ranges():
