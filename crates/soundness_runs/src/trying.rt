@@ -1,5 +1,5 @@
 // A state made by hand is observed once and finished, each time as it stands, and the answers are printed.
-use crate::journal;
+use crate::records;
 use crate::same;
 use crate::text;
 use finishing::FinishAnswer;
@@ -36,7 +36,7 @@ fn kept(s: RecoveredRaftStorage, after: RecoveredRaftStorage, store: &[u8], was:
 
 // A foreign record at the last LSN.
 fn try_observing(s: RecoveredRaftStorage, store: &mut [u8], was: &[u8]) -> Observing {
-    let done = observing::observe_record(s, journal::foreign(u64::MAX), b"", store);
+    let done = observing::observe_record(s, records::foreign(u64::MAX), b"", store);
     let answer = done.answer;
     let after = done.state;
     Observing {
@@ -73,7 +73,7 @@ fn answers(name: &[u8], t: Tried) {
     text::put(name);
     text::put(b" observe");
     let observed = t.observed;
-    text::answer(observed, journal::foreign(0));
+    text::answer(observed);
     text::put(b" finish");
     let finished = t.finished;
     text::finish_answer(finished);

@@ -1,6 +1,6 @@
 // Each clause of soundness, broken alone. The states start from two replicas: 1 1 with entries 1 and 2 (5 and 64 bytes) and a hard
 // state, 2 3 with pointer 5 of term 2, entries 6 and 7 (6 and 7 bytes) and a hard state; 7 scanned, the last LSN is 10.
-use crate::journal;
+use crate::records;
 use crate::states;
 use crate::trying;
 use ids::Lsn;
@@ -62,15 +62,15 @@ fn second(name: &[u8], s: RecoveredRaftStorage, h: Header, store: &[u8]) {
 
 fn boundaries(s: RecoveredRaftStorage, store: &[u8]) {
     let h = states::head(s, 1);
-    let identity = journal::identity(2, 3);
-    let no_term = journal::pointer(identity, 5, 0);
+    let identity = records::identity(2, 3);
+    let no_term = records::pointer(identity, 5, 0);
     second(
         b"boundary-without-term",
         s,
         h.with_pointer(no_term, Lsn(7), 0),
         store,
     );
-    let no_index = journal::pointer(identity, 0, 2);
+    let no_index = records::pointer(identity, 0, 2);
     second(
         b"boundary-without-index",
         s,

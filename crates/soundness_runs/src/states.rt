@@ -1,5 +1,5 @@
 // States made by hand: a state with one thing in it changed.
-use crate::journal;
+use crate::records;
 use codec::ConfChangeKind;
 use codec::HardState;
 use codec::Vote;
@@ -58,7 +58,7 @@ pub fn with_held(s: RecoveredRaftStorage, held: usize) -> RecoveredRaftStorage {
 }
 
 pub fn with_identity(s: RecoveredRaftStorage, group: u64, replica: u64) -> RecoveredRaftStorage {
-    let identity = journal::identity(group, replica);
+    let identity = records::identity(group, replica);
     let mut h = s.heads[0];
     h.identity = identity;
     with_head(s, 0, h)
@@ -148,16 +148,16 @@ pub fn change(version: u64) -> RecoveredRaftLogEntry {
 // Replicas 1 1 and 2 3 that keep no LSN and hold no entry, nothing scanned.
 pub fn bare() -> RecoveredRaftStorage {
     let s = RecoveredRaftStorage::fresh();
-    let first = Header::new(journal::identity(1, 1));
-    let second = Header::new(journal::identity(2, 3));
+    let first = Header::new(records::identity(1, 1));
+    let second = Header::new(records::identity(2, 3));
     with_held(with_head(with_head(s, 0, first), 1, second), 2)
 }
 
 // The bare state, 10 scanned, whose second replica has a boundary and holds `len` entries without bytes.
 pub fn bounded(index: u64, term: u64, len: usize) -> RecoveredRaftStorage {
     let s = with_scan(bare(), 7, some(10));
-    let identity = journal::identity(2, 3);
-    let p = journal::pointer(identity, index, term);
+    let identity = records::identity(2, 3);
+    let p = records::pointer(identity, index, term);
     let h = with_len(Header::new(identity).with_pointer(p, Lsn(9), 0), len);
     let e = entry(1, 10, 0);
     with_head(with_entry(with_entry(s, 64, e), 65, e), 1, h)

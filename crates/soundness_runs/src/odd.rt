@@ -1,5 +1,5 @@
 // States that are odd and yet sound: none may be refused by 1. The first two are the states that the broken ones start from.
-use crate::journal;
+use crate::records;
 use crate::states;
 use crate::text;
 use crate::trying;
@@ -57,7 +57,7 @@ fn pointer_lsn(s: RecoveredRaftStorage, store: &[u8]) {
 // A header that breaks every clause.
 fn garbage_head() -> Header {
     let high = states::some(u64::MAX);
-    let h = states::with_len(Header::new(journal::identity(0, 0)), 99);
+    let h = states::with_len(Header::new(records::identity(0, 0)), 99);
     states::with_lsns(
         states::with_progress(states::with_vote(h, 0), 7, 8, 9),
         high,
@@ -80,8 +80,8 @@ fn garbage(s: RecoveredRaftStorage, store: &[u8]) {
 
 // Foreign records at 11 and 12.
 fn two_foreign() -> [WalRecord; 256] {
-    let first = journal::foreign(11);
-    let second = journal::foreign(12);
+    let first = records::foreign(11);
+    let second = records::foreign(12);
     let mut records = [first; 256];
     records[1] = second;
     records
@@ -90,7 +90,7 @@ fn two_foreign() -> [WalRecord; 256] {
 fn chunk_line(taken: usize, answer: Observation, finished: FinishAnswer) {
     text::put(b"odd scanned-2^64-2 chunk of 2 taken");
     text::number(taken as u64);
-    text::answer(answer, journal::foreign(12));
+    text::answer(answer);
     text::put(b" then finish");
     text::finish_answer(finished);
     text::put(b"\n");

@@ -1,7 +1,7 @@
 use Prim.Native.Nat.{_-_}
 use borrow.Author.Needs.{needs}
-use Rattle.journeys.proofs.chunks.foreign_records.Statement.{statement}
-use Rattle.journeys.proofs.chunks.foreign_records.Tie as tie
+use Rattle.soundness_runs.proofs.records.foreign_records.Statement.{statement}
+use Rattle.soundness_runs.proofs.records.foreign_records.Tie as tie
 
 abbrev Inv-loop : tie.InvT-loop
 Inv-loop all₀ i₀ all i = Unit {0}
