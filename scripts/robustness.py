@@ -11,7 +11,8 @@ failing input's file and ends with 1 if any failed.
 import argparse, collections, hashlib, multiprocessing, os, random, re, shutil, subprocess, sys, tempfile
 
 NUMBERS = [b'0', b'1', b'2', b'7', b'8', b'9', b'63', b'64', b'65', b'255', b'256', b'257', b'4095', b'4096', b'4097', b'4294967295', b'4294967296',
-           b'18446744073709551614', b'18446744073709551615', b'18446744073709551616', b'-', b'', b'00', b'+1', b'-1']
+           b'18446744073709551614', b'18446744073709551615']
+ODD = [b'18446744073709551616', b'-', b'', b'00', b'+1', b'-1', b'N', b'E']
 MALFORMED = rb'line \d+ malformed\n'
 REPLICA = (rb'replica \d+ \d+ boundary \d+ \d+ progress \d+ \d+ \d+ commit \d+ hard (-|\d+ (-|\d+) \d+) hard-lsn (-|\d+) pointer-lsn (-|\d+) '
            rb'replayed (-|\d+) minimum (-|\d+) log \d+ (-|\d+) (-|\d+) (-|\d+)\n(  pointer( \d+){6} [0-9a-f]{64}\n)?'
@@ -27,14 +28,14 @@ FORMS = {
 
 
 def stored(program):
-    """The inputs of a program, as bytes."""
+    """The inputs of a program, as bytes; the generated ones, which are mostly well formed, count ten times."""
     byte = lambda m: b'\n' if m.group(0) == b'\\n' else bytes([int(m.group(1), 8)])
     inputs = []
     for name in 'texts', 'vectors':
         path = f'tests/{program}/{name}.tsv'
         for line in open(path, 'rb') if os.path.exists(path) else []:
             text = line.split(b'\t')[1]
-            inputs.append(b'' if text == b'\\c' else re.sub(rb'\\n|\\0(\d{3})', byte, text))
+            inputs += [b'' if text == b'\\c' else re.sub(rb'\\n|\\0(\d{3})', byte, text)] * (10 if name == 'vectors' else 1)
     return inputs
 
 
@@ -55,12 +56,13 @@ def edited_lines(rng, text, other):
 
 
 def edited_word(rng, text):
-    """A word with another number in its place."""
-    words = [m.span() for m in re.finditer(rb'[^ \n]+', text)]
+    """A number with another in its place, most often a number of the same text; seldom something odd."""
+    words = [m.span() for m in re.finditer(rb'(?<= )\d+\b', text)]
     if not words:
         return text
-    begin, end = rng.choice(words)
-    return text[:begin] + rng.choice(NUMBERS) + text[end:]
+    (begin, end), (first, last) = rng.choice(words), rng.choice(words)
+    how = rng.random()
+    return text[:begin] + (text[first:last] if how < 0.6 else rng.choice(NUMBERS) if how < 0.95 else rng.choice(ODD)) + text[end:]
 
 
 def edited_byte(rng, text):
@@ -82,11 +84,15 @@ def counted(text):
 
 
 def changed(rng, inputs):
+    """One to four edits, most often behind the line that counts the records."""
     text, other = rng.choice(inputs), rng.choice(inputs)
+    at = re.search(rb'\nrecords .*\n', text)
+    begin = at.end() if at and rng.random() < 0.9 else 0
+    head, text, other = text[:begin], text[begin:], other[other.find(b'\nrecords') + 1:]
     for _ in range(rng.randrange(1, 5)):
         how = rng.random()
-        text = edited_word(rng, text) if how < 0.5 else edited_lines(rng, text, other) if how < 0.8 else edited_byte(rng, text)
-    return counted(text) if rng.random() < 0.5 else text
+        text = edited_word(rng, text) if how < 0.6 else edited_lines(rng, text, other) if how < 0.95 else edited_byte(rng, text)
+    return counted(head + text) if rng.random() < 0.9 else head + text
 
 
 def run(command, text):
