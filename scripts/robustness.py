@@ -8,7 +8,7 @@ N runs a program (default 50,000); every K-th also under valgrind (default 500; 
 the folder of the oracle's built programs each answer is also compared with the original's. The same seed gives the same inputs. Prints a
 failing input's file and ends with 1 if any failed.
 """
-import argparse, collections, hashlib, multiprocessing, os, random, re, shutil, subprocess, sys, tempfile
+import argparse, collections, hashlib, multiprocessing, os, random, re, shutil, signal, subprocess, sys, tempfile
 
 NUMBERS = [b'0', b'1', b'2', b'7', b'8', b'9', b'63', b'64', b'65', b'255', b'256', b'257', b'4095', b'4096', b'4097', b'4294967295', b'4294967296',
            b'18446744073709551614', b'18446744073709551615']
@@ -95,13 +95,19 @@ def changed(rng, inputs):
     return counted(head + text) if rng.random() < 0.9 else head + text
 
 
-def run(command, text):
-    """The status (a word where it did not end) and the answer."""
-    try:
-        done = subprocess.run(command, input=text, stdout=subprocess.PIPE, stderr=subprocess.DEVNULL, timeout=60)
-        return done.returncode, done.stdout
-    except subprocess.TimeoutExpired:
-        return 'no end', b''
+def run(command, text, folder):
+    """The status (a word where it did not end in a minute) and the answer. The input goes through a file: quicker than a pipe."""
+    path = f'{folder}/{os.getpid()}'
+    with open(path, 'wb') as given:
+        given.write(text)
+    with open(path, 'rb') as given:
+        running = subprocess.Popen(command, stdin=given, stdout=subprocess.PIPE, stderr=subprocess.DEVNULL, close_fds=False)
+    signal.signal(signal.SIGALRM, lambda *_: running.kill())
+    signal.alarm(60)
+    answer = running.stdout.read()
+    running.stdout.close()
+    status = running.wait()
+    return status if signal.alarm(0) else 'no end', answer
 
 
 def kind_of(answer):
@@ -116,16 +122,16 @@ def part(job):
     kinds, failed = collections.Counter(), []
     for i in range(runs):
         text = changed(rng, inputs)
-        status, answer = run([f'target/bin/{program}'], text)
+        status, answer = run([f'target/bin/{program}'], text, folder)
         kinds[kind_of(answer)] += 1
         why = '' if status == 0 else f'status {status}'
         if not why and not form.fullmatch(answer):
             why = 'an answer of another form'
-        if not why and oracle and run([f'{oracle}/oracle-{program}'], text) != (0, answer):
+        if not why and oracle and run([f'{oracle}/oracle-{program}'], text, folder) != (0, answer):
             why = 'another answer than the original'
         if not why and every and i % every == 0:
             kinds['under valgrind'] += 1
-            status, _ = run(['valgrind', '--quiet', '--error-exitcode=99', f'target/bin/{program}'], text)
+            status, _ = run(['valgrind', '--quiet', '--error-exitcode=99', f'target/bin/{program}'], text, folder)
             why = '' if status == 0 else f'valgrind: status {status}'
         if why:
             name = f'{folder}/{program}-{hashlib.sha1(text).hexdigest()[:12]}.txt'
