@@ -1,3 +1,4 @@
+pub mod Arms
 pub mod Chunking
 pub mod One
 pub mod Program

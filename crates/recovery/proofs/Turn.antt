@@ -142,7 +142,7 @@ unfolding formRows
 command-fits r lent f = clear (formRows (ownerOf (W.Entry r)) (kindOf (W.Entry r) lent)) f .1 .1 .1 .1 .1 .1 .1 .0
 
 -- The block that is lent, and the store with another block there.
-block-is : (u : List ℕ) (p : ℕ) → take (4096 * p + 4096 - 4096 * p) (drop (4096 * p) u) ≡ bytesIn u p
+pub block-is : (u : List ℕ) (p : ℕ) → take (4096 * p + 4096 - 4096 * p) (drop (4096 * p) u) ≡ bytesIn u p
 block-is u p = ap (λ (n : ℕ). take n (drop (4096 * p) u)) (add-sub-cancel-left (4096 * p) 4096)
 
 store-is : (u : List ℕ) (p : ℕ) (ys : List ℕ) → length ys ≡ 4096

@@ -1,10 +1,13 @@
 // Observing: records of a journal, one or a chunk of them, each decided on small values and written in place.
+use codec::RaftWalRecord;
 use codec::WalRecord;
+use ids::Checked;
 use ids::Refusal;
 use replay::Observation;
 use routing::Admission;
 use storage::Found;
 use storage::RecoveredRaftStorage;
+use view::RaftLogReplayOutcome;
 ghost use mathlib.Core.Path.{_≡_};
 ghost use lib.ListN.{take};
 ghost use Rattle.recovery.specs.Runs.{atMost, Runs, Observing};
@@ -99,48 +102,105 @@ pub fn observe_records(
                         let heads = t.heads;
                         own = storage::identities(heads);
                     }
-                    Found::At(p) => {
-                        let head = t.heads[p];
-                        let q = 64 * p + replay::look(head, index);
-                        let before = 64 * p + replay::look_before(head, index);
-                        let e = t.entries[q];
-                        let b = t.entries[before];
-                        let at = 4096 * p;
-                        let end = at + 4096;
-                        let change = replay::settle(
-                            head,
-                            e,
-                            b,
-                            kind,
-                            lsn,
-                            &mut store[at..end],
-                            lent,
-                        );
-                        let after = change.head;
-                        let entry = change.entry;
-                        answer = change.answer;
-                        t.heads[p] = after;
-                        t.entries[q] = entry;
-                        t.scan = next;
-                        if let Observation::Refused(why) = answer {
-                            return ObservedChunk {
-                                taken: i,
-                                answer: Observation::Refused(why),
-                                state: t,
-                            };
+                    Found::At(p) => match kind {
+                        RaftWalRecord::Entry(received) => {
+                            let head = t.heads[p];
+                            let q = 64 * p + replay::look(head, index);
+                            let before = 64 * p + replay::look_before(head, index);
+                            let e = t.entries[q];
+                            let b = t.entries[before];
+                            let at = 4096 * p;
+                            let end = at + 4096;
+                            let outcome = replay::decide(
+                                head,
+                                e,
+                                b,
+                                received,
+                                &store[at..end],
+                                lent,
+                            );
+                            if let RaftLogReplayOutcome::Refused(why) = outcome {
+                                t.scan = next;
+                                return ObservedChunk {
+                                    taken: i,
+                                    answer: Observation::Refused(why),
+                                    state: t,
+                                };
+                            }
+                            let len = replay::len_after(head, received.index, outcome);
+                            let after = head.with_entry(len, lsn);
+                            t.heads[p] = after;
+                            let change = replay::write_entry(
+                                head,
+                                e,
+                                received,
+                                lsn,
+                                &mut store[at..end],
+                                lent,
+                                outcome,
+                            );
+                            let kept = change.entry;
+                            answer = change.answer;
+                            t.entries[q] = kept;
+                            t.scan = next;
+                            i = i + 1;
                         }
-                        i = i + 1;
-                        if 0 < change.dropped {
-                            let k = change.dropped;
-                            let len = after.len;
-                            let mut j: usize = 0;
-                            while j < len {
-                                let moved = t.entries[64 * p + k + j];
-                                t.entries[64 * p + j] = moved;
-                                j = j + 1;
+                        RaftWalRecord::HardState(hard) => {
+                            let head = t.heads[p];
+                            let received = hard.hard_state;
+                            if let Checked::Refused(why) = view::decide_hard_state(head, received) {
+                                t.scan = next;
+                                return ObservedChunk {
+                                    taken: i,
+                                    answer: Observation::Refused(why),
+                                    state: t,
+                                };
+                            }
+                            let after = head.with_hard_state(received, lsn);
+                            t.heads[p] = after;
+                            t.scan = next;
+                            answer = Observation::Kept;
+                            i = i + 1;
+                        }
+                        RaftWalRecord::SnapshotPointer(pointer) => {
+                            let head = t.heads[p];
+                            let q = 64 * p + replay::look(head, index);
+                            let e = t.entries[q];
+                            let at = 4096 * p;
+                            let end = at + 4096;
+                            let change = replay::install_snapshot(
+                                head,
+                                e,
+                                pointer,
+                                lsn,
+                                &mut store[at..end],
+                            );
+                            let after = change.head;
+                            let entry = change.entry;
+                            answer = change.answer;
+                            t.heads[p] = after;
+                            t.entries[q] = entry;
+                            t.scan = next;
+                            if let Observation::Refused(why) = answer {
+                                return ObservedChunk {
+                                    taken: i,
+                                    answer: Observation::Refused(why),
+                                    state: t,
+                                };
+                            }
+                            i = i + 1;
+                            if 0 < change.dropped {
+                                let k = change.dropped;
+                                let len = after.len;
+                                let mut j: usize = 0;
+                                while j < len {
+                                    let moved = t.entries[64 * p + k + j];
+                                    t.entries[64 * p + j] = moved;
+                                    j = j + 1;
+                                }
                             }
                         }
-                    }
+                    },
                 }
             }
         }

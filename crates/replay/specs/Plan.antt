@@ -116,12 +116,23 @@ entryPlan D.kept h e r l cs lent = asItWas D.kept h e cs
 entryPlan D.finished h e r l cs lent = asItWas D.finished h e cs
 entryPlan (D.refused n) h e r l cs lent = asItWas (D.refused n) h e cs
 
--- An entry (24, 26 to 32).
+-- What an entry is answered (24, 26 to 32).
+abbrev pub decided : Header → RecoveredRaftLogEntry → RecoveredRaftLogEntry → RaftLogEntryRecord → List ℕ → List ℕ → D.Answer
+decided h e b r cs lent =
+    entryAnswer h (existingIn (placeOf h (r .index)) e cs r lent) (priorIn (placeOf h (r .index - 1)) (h .«snapshot_term») (b .term)) (r .index) (r .term)
+
+-- How many entries are held after it.
+abbrev pub lenAfter : D.Answer → Header → ℕ → ℕ
+lenAfter D.appended h x = lookOf h x + 1
+lenAfter (D.replacedSuffix m) h x = lookOf h x + 1
+lenAfter D.idempotentReplay h x = h .len
+lenAfter D.counted h x = h .len
+lenAfter D.kept h x = h .len
+lenAfter D.finished h x = h .len
+lenAfter (D.refused n) h x = h .len
+
 abbrev pub replayPlan : Header → RecoveredRaftLogEntry → RecoveredRaftLogEntry → RaftLogEntryRecord → Lsn → List ℕ → List ℕ → Plan
-replayPlan h e b r l cs lent =
-    entryPlan
-    (entryAnswer h (existingIn (placeOf h (r .index)) e cs r lent) (priorIn (placeOf h (r .index - 1)) (h .«snapshot_term») (b .term)) (r .index) (r .term))
-    h e r l cs lent
+replayPlan h e b r l cs lent = entryPlan (decided h e b r cs lent) h e r l cs lent
 
 -- A row refuses, or the plan is another.
 abbrev pub unlessRow : Option ℕ → Header → RecoveredRaftLogEntry → List ℕ → Plan → Plan

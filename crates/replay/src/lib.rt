@@ -1,6 +1,5 @@
 // What a record does to its replica: decided on the header and the two entries that it looks at, its bytes written to the
 // replica's block of the store.
-use codec::HardState;
 use codec::RaftLogEntryRecord;
 use codec::RaftSnapshotPointerRecord;
 use codec::RaftWalRecord;
@@ -16,13 +15,12 @@ use view::RaftLogReplayOutcome;
 use view::RecoveredRaftLogEntry;
 use view::Removed;
 ghost use mathlib.Core.Path.{_≡_};
-ghost use mathlib.Core.List.{List};
-ghost use Prim.Native.Nat.{ℕ, _-_, _≤_};
+ghost use Prim.Native.Nat.{_-_, _≤_};
 ghost use lib.ListN.{length};
 ghost use Rattle.view.specs.Decisions.{outcomeOf};
 ghost use Rattle.view.specs.Model.{renewedEntry};
 ghost use Rattle.view.specs.Readers.{placeOf};
-ghost use Rattle.replay.specs.Plan.{identityIn, indexOf, lookOf, existingIn, priorIn, heldTermIn, planned, entryPlan, replayPlan, hardStatePlan, pointerPlan, planOf, Replayable, Settleable};
+ghost use Rattle.replay.specs.Plan.{identityIn, indexOf, lookOf, existingIn, priorIn, heldTermIn, decided, lenAfter, planned, entryPlan, pointerPlan, Replayable};
 
 // What a record is answered.
 pub enum Observation {
@@ -206,48 +204,33 @@ pub fn write_entry(
     }
 }
 
-// An entry (24, 26 to 32): e stands at the place looked at, `before` at the one before.
-pub fn replay(
+// What an entry is answered (24, 26 to 32): e stands at the place looked at, `before` at the one before.
+pub fn decide(
     head: Header,
     e: RecoveredRaftLogEntry,
     before: RecoveredRaftLogEntry,
     r: RaftLogEntryRecord,
-    lsn: Lsn,
-    block: &mut [u8],
+    block: &[u8],
     lent: &[u8],
-) -> Change
+) -> RaftLogReplayOutcome
     requires { ⌜ Replayable head e r (now block) (now lent) ⌝ }
-    ensures { λ d. ⌜ planned d (now (block .exit)) ≡ replayPlan head e before r lsn (now (block .entry)) (now (lent .entry)) ⌝ }
+    ensures { λ o. ⌜ outcomeOf o ≡ decided head e before r (now (block .entry)) (now (lent .entry)) ⌝ }
 {
-    let held = existing(head, e, r, &block[..], lent);
+    let held = existing(head, e, r, block, lent);
     let prior = prior_term(head, before, r.index);
-    let outcome = view::decide_entry(head, held, prior, r.index, r.term);
-    write_entry(head, e, r, lsn, block, lent, outcome)
+    view::decide_entry(head, held, prior, r.index, r.term)
 }
 
-// A hard state (33 to 38).
-pub fn keep_hard_state(
-    head: Header,
-    e: RecoveredRaftLogEntry,
-    received: HardState,
-    lsn: Lsn,
-) -> Change
-    ensures { λ d. ⌜ ((cs : List ℕ) → planned d cs ≡ hardStatePlan head e received lsn cs) ⌝ }
+// How many entries are held after an entry that is decided.
+pub fn len_after(head: Header, index: u64, outcome: RaftLogReplayOutcome) -> usize
+    ensures { λ n. ⌜ n ≡ lenAfter (outcomeOf outcome) head index ⌝ }
 {
-    if let Checked::Refused(why) = view::decide_hard_state(head, received) {
-        return Change {
-            answer: Observation::Refused(why),
-            head: head,
-            entry: e,
-            dropped: 0,
-        };
-    }
-    let next = head.with_hard_state(received, lsn);
-    Change {
-        answer: Observation::Kept,
-        head: next,
-        entry: e,
-        dropped: 0,
+    let q = look(head, index);
+    match outcome {
+        RaftLogReplayOutcome::Appended => q + 1,
+        RaftLogReplayOutcome::IdempotentReplay => head.len,
+        RaftLogReplayOutcome::ReplacedSuffix(_) => q + 1,
+        RaftLogReplayOutcome::Refused(_) => head.len,
     }
 }
 
@@ -279,28 +262,5 @@ pub fn install_snapshot(
         head: next,
         entry: e,
         dropped: k,
-    }
-}
-
-// A record of its replica, by kind (24 to 42).
-pub fn settle(
-    head: Header,
-    e: RecoveredRaftLogEntry,
-    before: RecoveredRaftLogEntry,
-    kind: RaftWalRecord,
-    lsn: Lsn,
-    block: &mut [u8],
-    lent: &[u8],
-) -> Change
-    requires { ⌜ Settleable head e kind (now block) (now lent) ⌝ }
-    ensures { λ d. ⌜ planned d (now (block .exit)) ≡ planOf head e before kind lsn (now (block .entry)) (now (lent .entry)) ⌝ }
-{
-    match kind {
-        RaftWalRecord::Entry(r) => replay(head, e, before, r, lsn, block, lent),
-        RaftWalRecord::HardState(r) => {
-            let received = r.hard_state;
-            keep_hard_state(head, e, received, lsn)
-        }
-        RaftWalRecord::SnapshotPointer(p) => install_snapshot(head, e, p, lsn, block),
     }
 }
