@@ -34,6 +34,15 @@ pub struct Ended {
     pub line: u64,
 }
 
+// What stands before the records: how many commands and records are given and what is left of the input, or the line that cannot be
+// read.
+pub struct Opened {
+    pub stop: Stop,
+    pub commands: usize,
+    pub records: usize,
+    pub window: Window,
+}
+
 // How many command lines were read, up to one that cannot be, and what is left of the input.
 struct Commands {
     read: usize,
@@ -41,11 +50,11 @@ struct Commands {
 }
 
 // Up to 256 records, whether the line behind them cannot be read, and what is left of the input.
-struct Chunk {
-    records: [WalRecord; 256],
-    count: usize,
-    bad: bool,
-    window: Window,
+pub struct Chunk {
+    pub records: [WalRecord; 256],
+    pub count: usize,
+    pub bad: bool,
+    pub window: Window,
 }
 
 // A line that cannot be read, before any record.
@@ -122,7 +131,13 @@ fn record_in(taken: Taken, commands: usize, lens: &[u8]) -> MaybeRecord {
 }
 
 // The next records, at most 256 and at most `most`, up to a line that is missing or cannot be read.
-fn read_chunk(buffer: &mut [u8], window: Window, most: usize, commands: usize, lens: &[u8]) -> Chunk
+pub fn read_chunk(
+    buffer: &mut [u8],
+    window: Window,
+    most: usize,
+    commands: usize,
+    lens: &[u8],
+) -> Chunk
     ensures { λ r. ⌜ (r .count ≤ most) × (r .bad ≡ false → 0 < most → 0 < r .count) ⌝ }
 {
     let blank = WalRecord {
@@ -165,7 +180,7 @@ fn lsn_at(records: [WalRecord; 256], i: usize) -> u64 {
 }
 
 // The number of the line behind so many headers, commands and records.
-fn line_behind(headers: u64, commands: usize, records: usize) -> u64 {
+pub fn line_behind(headers: u64, commands: usize, records: usize) -> u64 {
     let lines = std::num::wrapping_add_u64(commands as u64, records as u64);
     std::num::wrapping_add_u64(std::num::wrapping_add_u64(headers, lines), 1)
 }
@@ -223,46 +238,77 @@ fn records_in(taken: Taken) -> MaybeCount {
     record::records_of(line)
 }
 
-// Behind the command lines.
-fn recover_records(
-    buffer: &mut [u8],
-    window: Window,
-    commands: usize,
-    lent: &[u8],
-    lens: &[u8],
-    store: &mut [u8],
-) -> Ended {
+fn unread(line: u64, window: Window) -> Opened {
+    Opened {
+        stop: Stop::Malformed(line),
+        commands: 0,
+        records: 0,
+        window: window,
+    }
+}
+
+// Behind the command lines: how many records are given.
+fn open_records(buffer: &mut [u8], window: Window, commands: usize) -> Opened {
     let taken = input::next_line(buffer, window);
     let w = taken.window;
     let MaybeCount::Some(n) = records_in(taken) else {
-        return malformed(line_behind(1, commands, 0), w);
+        return unread(line_behind(1, commands, 0), w);
     };
-    observe_all(buffer, w, n as usize, commands, lent, lens, store)
+    Opened {
+        stop: Stop::None,
+        commands: commands,
+        records: n as usize,
+        window: w,
+    }
 }
 
-// Behind the first line: n commands, then the records.
-fn recover_commands(
+// Behind the first line: n commands, then how many records are given.
+fn open_commands(
     buffer: &mut [u8],
     window: Window,
     n: usize,
     lent: &mut [u8],
     lens: &mut [u8],
-    store: &mut [u8],
-) -> Ended {
+) -> Opened {
     let commands = read_commands(buffer, window, n, lent, lens);
     let left = commands.window;
     if commands.read < n {
-        return malformed(line_behind(1, commands.read, 0), left);
+        return unread(line_behind(1, commands.read, 0), left);
     }
-    recover_records(buffer, left, n, &lent[..], &lens[..], store)
+    open_records(buffer, left, n)
+}
+
+// The lines before the records: the commands' bytes go to `lent`, 65 for each, their lengths to `lens`.
+pub fn open(buffer: &mut [u8], lent: &mut [u8], lens: &mut [u8]) -> Opened {
+    let taken = input::next_line(buffer, input::start());
+    let w = taken.window;
+    let MaybeCount::Some(n) = commands_in(taken) else {
+        return unread(line_behind(0, 0, 0), w);
+    };
+    open_commands(buffer, w, n as usize, lent, lens)
+}
+
+// Whether a line stands behind the last record: it is one too many.
+pub fn goes_on(buffer: &mut [u8], window: Window) -> bool {
+    let taken = input::next_line(buffer, window);
+    taken.found
 }
 
 // A journal: what stands behind its last record is left.
 pub fn recover(buffer: &mut [u8], lent: &mut [u8], lens: &mut [u8], store: &mut [u8]) -> Ended {
-    let taken = input::next_line(buffer, input::start());
-    let w = taken.window;
-    let MaybeCount::Some(n) = commands_in(taken) else {
-        return malformed(line_behind(0, 0, 0), w);
-    };
-    recover_commands(buffer, w, n as usize, lent, lens, store)
+    let opened = open(buffer, lent, lens);
+    let w = opened.window;
+    let stop = opened.stop;
+    if let Stop::Malformed(line) = stop {
+        return malformed(line, w);
+    }
+    observe_all(
+        buffer,
+        w,
+        opened.records,
+        opened.commands,
+        &lent[..],
+        &lens[..],
+        store,
+    )
 }

@@ -2,8 +2,6 @@
 // cannot be read.
 use journal::Ended;
 use journal::Stop;
-use journal::input;
-use journal::input::Window;
 use libc::STDOUT_FILENO;
 use storage::RecoveredRaftStorage;
 
@@ -28,12 +26,6 @@ fn print_refused(lsn: u64, number: u64) {
     io::write_all(STDOUT_FILENO, &out[..n]);
 }
 
-// A line behind the last record is one too many.
-fn behind(buffer: &mut [u8], window: Window) -> bool {
-    let taken = input::next_line(buffer, window);
-    taken.found
-}
-
 fn print(buffer: &mut [u8], ended: Ended, store: &[u8]) {
     let stop = ended.stop;
     match stop {
@@ -41,7 +33,7 @@ fn print(buffer: &mut [u8], ended: Ended, store: &[u8]) {
         Stop::Refused { lsn, number } => print_refused(lsn, number),
         Stop::None => {
             let left = ended.window;
-            if behind(buffer, left) {
+            if journal::goes_on(buffer, left) {
                 print_malformed(ended.line);
                 return;
             }
