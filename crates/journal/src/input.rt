@@ -5,6 +5,8 @@ use text::command::Command;
 use text::command::MaybeLen;
 use text::line;
 use text::line::Line;
+use text::record;
+use text::record::MaybeRecord;
 ghost use Rattle.io.specs.Counts.{Counts};
 
 // What was read and not yet used: the bytes of the buffer from `at` up to `len`.
@@ -78,6 +80,40 @@ pub fn next_line(buffer: &mut [u8], window: Window) -> Taken {
         line: line,
         found: found,
         window: w,
+    }
+}
+
+// A record, or that its line is missing or cannot be read, and what is left then.
+pub struct TakenRecord {
+    pub record: MaybeRecord,
+    pub window: Window,
+}
+
+fn record_in(taken: Taken, commands: usize, lens: &[u8]) -> MaybeRecord {
+    if !taken.found {
+        return MaybeRecord::None;
+    }
+    let line = taken.line;
+    record::record_of(line, commands, lens)
+}
+
+// The next line as a record. Most lines stand whole in the buffer; another is read again, in pieces.
+pub fn next_record(buffer: &mut [u8], window: Window, commands: usize, lens: &[u8]) -> TakenRecord {
+    let n = used(window, &buffer[..]);
+    let r = line::read_line(&buffer[..n], window.at, Line::blank());
+    if r.ended {
+        let line = r.line;
+        let left = Window { at: r.next, len: n };
+        return TakenRecord {
+            record: record::record_of(line, commands, lens),
+            window: left,
+        };
+    }
+    let taken = next_line(buffer, window);
+    let left = taken.window;
+    TakenRecord {
+        record: record_in(taken, commands, lens),
+        window: left,
     }
 }
 

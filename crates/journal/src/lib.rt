@@ -122,14 +122,6 @@ fn read_commands(
     Commands { read: i, window: w }
 }
 
-fn record_in(taken: Taken, commands: usize, lens: &[u8]) -> MaybeRecord {
-    if !taken.found {
-        return MaybeRecord::None;
-    }
-    let line = taken.line;
-    record::record_of(line, commands, lens)
-}
-
 // The next records, at most 256 and at most `most`, up to a line that is missing or cannot be read.
 pub fn read_chunk(
     buffer: &mut [u8],
@@ -149,9 +141,10 @@ pub fn read_chunk(
     let n = share(most);
     let mut i: usize = 0;
     while i < n {
-        let taken = input::next_line(buffer, w);
+        let taken = input::next_record(buffer, w, commands, lens);
         w = taken.window;
-        let MaybeRecord::Some(r) = record_in(taken, commands, lens) else {
+        let read = taken.record;
+        let MaybeRecord::Some(r) = read else {
             return Chunk {
                 records: records,
                 count: i,

@@ -21,14 +21,11 @@ share-requires c κs = search needs
 loop-holds : tie.Need-loop-holds Inv-loop μ-loop
 loop-holds c = (search needs, refl)
 
-next-line-requires : tie.Need-next-line-requires Inv-loop μ-loop
-next-line-requires c κs = search needs
+next-record-requires : tie.Need-next-record-requires Inv-loop μ-loop
+next-record-requires c κs = search needs
 
-record-in-requires : tie.Need-record-in-requires Inv-loop μ-loop
-record-in-requires c κs = search needs
-
-enum-known-r : tie.Need-enum-known-r Inv-loop μ-loop
-enum-known-r c = search needs
+enum-known-read : tie.Need-enum-known-read Inv-loop μ-loop
+enum-known-read c = search needs
 
 enum-told : tie.Need-enum-told Inv-loop μ-loop
 enum-told c = search needs
@@ -38,8 +35,8 @@ same-length c = search needs
 
 returns : tie.Need-returns Inv-loop μ-loop
 returns c =
-    let n = c .before .before .before .before .before .before .before .before .before .before .share .ensures in
-    let l = c .before .before .before .before .before .before .before .before .before .loop .inv .0 in
+    let n = c .before .before .before .before .before .before .before .before .before .share .ensures in
+    let l = c .before .before .before .before .before .before .before .before .loop .inv .0 in
     (omega (arith, n .0, l), λ e. absurd (true≢false e))
 
 mul-records : tie.Need-mul-records Inv-loop μ-loop
@@ -74,9 +71,8 @@ read-chunk-spec =
     μ-loop
     share-requires
     loop-holds
-    next-line-requires
-    record-in-requires
-    enum-known-r
+    next-record-requires
+    enum-known-read
     enum-told
     same-length
     returns
