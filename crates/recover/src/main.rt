@@ -3,42 +3,25 @@
 use journal::Ended;
 use journal::Stop;
 use libc::STDOUT_FILENO;
-use storage::RecoveredRaftStorage;
+ghost use Rattle.io.specs.Counts.{Counts};
 
-// The tables of what was recovered, finished.
-fn print_tables(state: RecoveredRaftStorage, store: &[u8]) {
-    let done = finishing::finish(state, store);
-    let last = done.state;
-    let mut out = [0u8; 65536];
-    let n = tables::write_tables(last, &mut out);
-    io::write_all(STDOUT_FILENO, &out[..n]);
-}
-
-fn print_malformed(line: u64) {
-    let mut out = [0u8; 65536];
-    let n = tables::write_malformed(line, &mut out);
-    io::write_all(STDOUT_FILENO, &out[..n]);
-}
-
-fn print_refused(lsn: u64, number: u64) {
-    let mut out = [0u8; 65536];
-    let n = tables::write_refused(lsn, number, &mut out);
-    io::write_all(STDOUT_FILENO, &out[..n]);
-}
-
-fn print(buffer: &mut [u8], ended: Ended, store: &[u8]) {
+// What is printed stands at the start of the buffer then, since nothing of the input is read any more: how many bytes it is.
+fn print(buffer: &mut [u8; 65536], ended: Ended, store: &[u8]) -> usize
+    ensures { λ r. ⌜ Counts r (now (buffer .exit)) ⌝ }
+{
     let stop = ended.stop;
     match stop {
-        Stop::Malformed(line) => print_malformed(line),
-        Stop::Refused { lsn, number } => print_refused(lsn, number),
+        Stop::Malformed(line) => tables::write_malformed(line, buffer),
+        Stop::Refused { lsn, number } => tables::write_refused(lsn, number, buffer),
         Stop::None => {
             let left = ended.window;
             if journal::goes_on(buffer, left) {
-                print_malformed(ended.line);
-                return;
+                return tables::write_malformed(ended.line, buffer);
             }
             let state = ended.state;
-            print_tables(state, store);
+            let done = finishing::finish(state, store);
+            let last = done.state;
+            tables::write_tables(last, buffer)
         }
     }
 }
@@ -49,5 +32,6 @@ fn main() {
     let mut lens = [0u8; 256];
     let mut store = [0u8; 32768];
     let ended = journal::recover(&mut buffer, &mut lent, &mut lens, &mut store);
-    print(&mut buffer, ended, &store);
+    let n = print(&mut buffer, ended, &store);
+    io::write_all(STDOUT_FILENO, &buffer[..n]);
 }
