@@ -180,12 +180,21 @@ fn push_tail(len: usize, tail: u64, b: u8) -> u64
     tail
 }
 
-// One more byte of a field.
+// One more byte of a field. A short one, as most are, needs no look at its second half.
 pub fn push_field(f: Field, b: u8) -> Field
     ensures { λ r. ⌜ r ≡ pushedField f b ⌝ }
 {
     let number = push_decimal(f.decimal, f.value, b);
     let head = push_head(f.len, f.head, b);
+    if f.len < 8 {
+        return Field {
+            len: f.len + 1,
+            head: head,
+            tail: f.tail,
+            decimal: number.decimal,
+            value: number.value,
+        };
+    }
     let tail = push_tail(f.len, f.tail, b);
     let len = count_up(f.len, 17);
     Field {
