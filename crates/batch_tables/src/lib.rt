@@ -84,7 +84,7 @@ fn put_pair(out: &mut [u8], at: usize, b: u8) -> usize
 }
 
 // Bytes as hex digits.
-fn put_hex(out: &mut [u8], at: usize, bytes: &[u8]) -> usize
+pub fn put_hex(out: &mut [u8], at: usize, bytes: &[u8]) -> usize
     requires { ⌜ at + 2 * length (now bytes) ≤ length (now out) ⌝ }
     ensures { λ r. ⌜ Wrote (now (out .entry)) at (hexText (now (bytes .entry))) (2 * length (now (bytes .entry))) r (now (out .exit)) ⌝ }
 {
@@ -122,7 +122,7 @@ fn put_word(out: &mut [u8], at: usize, n: u64) -> usize
 }
 
 // A checksum, and the end of the line.
-fn put_checksum(out: &mut [u8], at: usize, c: Checksum) -> usize
+pub fn put_checksum(out: &mut [u8], at: usize, c: Checksum) -> usize
     requires { ⌜ at + 65 ≤ length (now out) ⌝ }
     ensures { λ r. ⌜ Wrote (now (out .entry)) at (checksumText (checksumOf c) ++ (10 ∷ [])) 65 r (now (out .exit)) ⌝ }
 {
@@ -164,7 +164,7 @@ fn put_normal(out: &mut [u8], at: usize, number: u64) -> usize
 }
 
 // A|P|R version replica
-fn put_configuration(
+pub fn put_configuration(
     out: &mut [u8],
     at: usize,
     kind: ConfChangeKind,
@@ -237,7 +237,7 @@ fn put_hard_state(out: &mut [u8], at: usize, r: RaftHardStateRecord) -> usize
 }
 
 // ID, index, term, applied, size and rest of a pointer, a space behind each.
-fn put_snapshot(out: &mut [u8], at: usize, p: RaftSnapshotPointerRecord) -> usize
+pub fn put_snapshot(out: &mut [u8], at: usize, p: RaftSnapshotPointerRecord) -> usize
     requires { ⌜ at + 126 ≤ length (now out) ⌝ }
     ensures { λ r. ⌜ Wrote (now (out .entry)) at (snapshotText (pointerOf p)) 126 r (now (out .exit)) ⌝ }
 {

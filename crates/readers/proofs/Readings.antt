@@ -34,7 +34,7 @@ use Rattle.readers.specs.declared.Own.{Own}
 use Rattle.readers.specs.declared.ReadReplica.the-variants as R
 use Rattle.readers.specs.declared.ReadPlace.the-variants as P
 use Rattle.readers.specs.declared.ReadEntry.the-variants as E
-use Rattle.readers.specs.Own.{Passes}
+use Rattle.readers.specs.Own.{Passes, minimumOf}
 use Rattle.readers.specs.Reads.{ReadsReplica, ReadsPlace, Shows, readEntryOf, payloadWith, entryWith, cellIn, cellFor, commandOf, commandAt}
 use Rattle.readers.proofs.Answers.{ask-sound, ask-unsound, test-failed, reads-sound, reads-unsound}
 use Rattle.readers.proofs.Owns.{logIn, Owns, place-in, reads-own}
@@ -64,18 +64,13 @@ module _ {s : RecoveredRaftStorage} {st : List ℕ} {b : Bool} (k : Passes s st 
   place-held q l = record { reads = reads-sound k q (ap ok (place-is-held l)); own = λ t. rw (lt-ltb p (s .held) l) }
 
 -- Of a header and the first of its entries.
-module _ (h : Header) (es : List RecoveredRaftLogEntry) (cs : List ℕ) {first : RecoveredRaftLogEntry} {x : MaybeLsn}
-    (e : first ≡ getD es 0 noEntry) (r : x ≡ H.firstRetainedOf h first) where
-  pub retained-is : D.firstRetainedLsn (viewOf h es cs) ≡ lsnOf x
-  retained-is = first-retained-is h es cs ∙ ap (λ (y : RecoveredRaftLogEntry). lsnOf (H.firstRetainedOf h y)) (sym e) ∙ ap lsnOf (sym r)
+module _ (h : Header) (es : List RecoveredRaftLogEntry) (cs : List ℕ) {first : RecoveredRaftLogEntry} (e : first ≡ getD es 0 noEntry) where
+  pub retained-is : {x : MaybeLsn} → x ≡ H.firstRetainedOf h first → D.firstRetainedLsn (viewOf h es cs) ≡ lsnOf x
+  retained-is r = first-retained-is h es cs ∙ ap (λ (y : RecoveredRaftLogEntry). lsnOf (H.firstRetainedOf h y)) (sym e) ∙ ap lsnOf (sym r)
 
-  pub minimum-is : (y z : MaybeLsn) → lsnOf y ≡ least (lsnOf (h .«hard_state_lsn»)) (lsnOf x) → lsnOf z ≡ least (lsnOf (h .«snapshot_pointer_lsn»)) (lsnOf y)
-      → minimumRecoveryLsn (viewOf h es cs) ≡ lsnOf z
+  pub minimum-is : minimumRecoveryLsn (viewOf h es cs) ≡ minimumOf h first
   unfolding minimumRecoveryLsn viewOf
-  minimum-is y z f g =
-      ap (λ (v : Option ℕ). least (lsnOf (h .«snapshot_pointer_lsn»)) (least (lsnOf (h .«hard_state_lsn»)) v)) retained-is
-      ∙ ap (least (lsnOf (h .«snapshot_pointer_lsn»))) (sym f)
-      ∙ sym g
+  minimum-is = ap (λ (v : Option ℕ). least (lsnOf (h .«snapshot_pointer_lsn»)) (least (lsnOf (h .«hard_state_lsn»)) v)) (retained-is refl)
 
 -- A command that is no longer than its cell.
 pad-take : (n : ℕ) (c : List ℕ) → n ≤ length c → take n c ≡ padTo n c

@@ -19,7 +19,7 @@ ghost use Rattle.definition.specs.Recovery.{replicaOf, least, minimumRecoveryLs
 ghost use Rattle.ids.specs.Identity.{identityOf};
 ghost use Rattle.view.specs.Meaning.{lsnOf, noEntry};
 ghost use Rattle.storage.specs.Model.{entriesIn};
-ghost use Rattle.readers.specs.Own.{Passes, ownFor};
+ghost use Rattle.readers.specs.Own.{Passes, ownFor, minimumOf};
 ghost use Rattle.readers.specs.Reads.{Reads, ReadsReplica, ReadsPlace, Shows, readCountOf, readNumberOf, readFlagOf, readLsnOf, readIndexOf, readBoundaryOf, readEntryOf, cellFor, cellIn};
 
 // Answers: what is read, or why nothing is.
@@ -127,6 +127,16 @@ fn lesser(a: MaybeLsn, b: MaybeLsn) -> MaybeLsn
         return a;
     }
     b
+}
+
+// The least LSN from which a replica can be recovered: of its pointer, its hard state and its first entry, which is `first`.
+pub fn minimum_of(head: Header, first: RecoveredRaftLogEntry) -> MaybeLsn
+    ensures { λ r. ⌜ lsnOf r ≡ minimumOf head first ⌝ }
+{
+    let pointer = head.snapshot_pointer_lsn;
+    let hard_state = head.hard_state_lsn;
+    let retained = head.first_retained_lsn(first);
+    lesser(pointer, lesser(hard_state, retained))
 }
 
 // How many replicas are held.
@@ -331,7 +341,7 @@ pub fn first_retained_lsn(
     ReadLsn::Read(head.first_retained_lsn(first))
 }
 
-// The least LSN from which a replica can be recovered: of its pointer, its hard state and its first entry.
+// The least LSN from which a replica can be recovered.
 pub fn minimum_recovery_lsn(
     state: RecoveredRaftStorage,
     store: &[u8],
@@ -345,10 +355,7 @@ pub fn minimum_recovery_lsn(
     let own = own_of(state, identity);
     let first = kept_at(state, own.place, 0);
     let head = own.head;
-    let pointer = head.snapshot_pointer_lsn;
-    let hard_state = head.hard_state_lsn;
-    let retained = head.first_retained_lsn(first);
-    ReadLsn::Read(lesser(pointer, lesser(hard_state, retained)))
+    ReadLsn::Read(minimum_of(head, first))
 }
 
 // The entry that a replica holds at an index.

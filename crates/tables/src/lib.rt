@@ -39,7 +39,7 @@ pub fn put_number(out: &mut [u8], at: usize, n: u64, end: u8) -> usize
 }
 
 // A word with a space behind it, a number, and the end of the line.
-fn put_count(out: &mut [u8], at: usize, word: &[u8], n: usize) -> usize
+pub fn put_count(out: &mut [u8], at: usize, word: &[u8], n: usize) -> usize
     requires { ⌜ (length (now word) ≤ 11) × (at + 32 ≤ length (now out)) ⌝ }
     ensures { λ r. ⌜ Wrote (now (out .entry)) at (now (word .entry) ++ (decimal n ++ (10 ∷ []))) 32 r (now (out .exit)) ⌝ }
 {
@@ -48,7 +48,7 @@ fn put_count(out: &mut [u8], at: usize, word: &[u8], n: usize) -> usize
 }
 
 // A vote, `-` for none, and a space.
-fn put_vote(out: &mut [u8], at: usize, vote: Vote) -> usize
+pub fn put_vote(out: &mut [u8], at: usize, vote: Vote) -> usize
     requires { ⌜ at + 21 ≤ length (now out) ⌝ }
     ensures { λ r. ⌜ Wrote (now (out .entry)) at (voteField (voteOf vote) ++ (32 ∷ [])) 21 r (now (out .exit)) ⌝ }
 {
@@ -130,7 +130,7 @@ pub fn at_most(n: usize, limit: usize) -> usize
 }
 
 // The index of entry place q. What would pass 64 bits is their largest number.
-fn index_at(first: u64, q: usize) -> u64
+pub fn index_at(first: u64, q: usize) -> u64
     ensures { λ r. ⌜ r ≡ indexAt first q ⌝ }
 {
     let more = q as u64;
@@ -141,7 +141,7 @@ fn index_at(first: u64, q: usize) -> u64
 }
 
 // How many entries a replica holds, of one that keeps its limit.
-fn len_of(h: Header) -> usize
+pub fn len_of(h: Header) -> usize
     ensures { λ r. ⌜ r ≡ lenOf h ⌝ }
 {
     at_most(h.len, 64)

@@ -1,6 +1,6 @@
 -- `minimum_recovery_lsn` meets its contract.
 -- Assumes nothing.
-use mathlib.Core.Path.{refl, ap}
+use mathlib.Core.Path.{refl, sym, ap, _∙_}
 use native.Mathlib.Omega.{arith}
 use borrow.Author.Tests.{not-true, not-false}
 use Rattle.definition.specs.Table.{ok}
@@ -24,20 +24,14 @@ own-of-requires c κs = few-held (c .before .passes .ensures) (not-false _ (c .i
 kept-at-requires : tie.Need-kept-at-requires
 kept-at-requires c κs = (owns (c .before .before .passes .ensures) (not-false _ (c .before .if1 .left)) (c .own-of .ensures) .low, omega arith)
 
-first-retained-lsn-requires : tie.Need-first-retained-lsn-requires
-first-retained-lsn-requires c κs = search needs
-
-lesser-requires : tie.Need-lesser-requires
-lesser-requires c κs = search needs
-
-lesser-requires-2 : tie.Need-lesser-requires-2
-lesser-requires-2 c κs = search needs
+minimum-of-requires : tie.Need-minimum-of-requires
+minimum-of-requires c κs = search needs
 
 returns-2 : tie.Need-returns-2
 returns-2 c =
-    let a = c .before .before .before .before .before in
+    let a = c .before .before .before in
     let w = owns (a .before .before .passes .ensures) (not-false _ (a .before .if1 .left)) (a .own-of .ensures) in
-    reads-own w minimumRecoveryLsn (ap ok (minimum-is _ _ _ (c .before .before .before .before .kept-at .ensures) (c .before .before .first-retained-lsn .ensures) (c .before .lesser .result) (c .lesser2 .result) (c .before .lesser .ensures) (c .lesser2 .ensures)))
+    reads-own w minimumRecoveryLsn (ap ok (minimum-is _ _ _ (c .before .before .kept-at .ensures) ∙ sym (c .minimum-of .ensures)))
 
 pub minimum-recovery-lsn-spec : {M : Type 1} → statement M
 minimum-recovery-lsn-spec =
@@ -47,7 +41,5 @@ minimum-recovery-lsn-spec =
     returns
     own-of-requires
     kept-at-requires
-    first-retained-lsn-requires
-    lesser-requires
-    lesser-requires-2
+    minimum-of-requires
     returns-2)
