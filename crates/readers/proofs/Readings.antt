@@ -84,7 +84,7 @@ payload-with (Y.Normal n) c l = ap (λ (r : List ℕ). normal (inside r)) (pad-t
 payload-with (Y.Configuration kind version replica) c l = refl
 
 -- Cell q of block p is cell 64 * p + q of the store.
-cell-in : (st : List ℕ) (p q : ℕ) → length st ≡ 32768 → p < 8 → q < 64 → cellAt (bytesIn st p) q ≡ cellAt st (64 * p + q)
+pub cell-in : (st : List ℕ) (p q : ℕ) → length st ≡ 32768 → p < 8 → q < 64 → cellAt (bytesIn st p) q ≡ cellAt st (64 * p + q)
 cell-in st p q l h h′ =
     let e : 4096 * p + 64 * q ≡ 64 * (64 * p + q) = omega arith in
     part-part (4096 * p) 4096 st (64 * q) 64 (omega arith) (omega arith) ∙ ap (λ (a : ℕ). part a 64 st) e

@@ -26,7 +26,7 @@ unfolding linesTo
 lines-first zero f = sym (append-nil (f 0))
 lines-first (suc n) f = ap (λ (l : List ℕ). l ++ f (suc n)) (lines-first n f) ∙ append-assoc (f 0) (linesTo n (λ i. f (suc i))) (f (suc n))
 
-lines-same : (n : ℕ) (f g : ℕ → List ℕ) → ((i : ℕ) → i < n → f i ≡ g i) → linesTo n f ≡ linesTo n g
+pub lines-same : (n : ℕ) (f g : ℕ → List ℕ) → ((i : ℕ) → i < n → f i ≡ g i) → linesTo n f ≡ linesTo n g
 unfolding linesTo
 lines-same zero f g h = refl
 lines-same (suc n) f g h = λ k. lines-same n f g (λ i l. h i (omega arith)) k ++ h n (omega arith) k
@@ -41,7 +41,7 @@ unfolding sumTo
 sum-same zero f g h = refl
 sum-same (suc n) f g h = λ k. sum-same n f g (λ i l. h i (omega arith)) k + h n (omega arith) k
 
-joined-tab : {A : Type 0} (n : ℕ) (g : A → List ℕ) (h : ℕ → A) → joined g (tab n h) ≡ linesTo n (λ i. g (h i))
+pub joined-tab : {A : Type 0} (n : ℕ) (g : A → List ℕ) (h : ℕ → A) → joined g (tab n h) ≡ linesTo n (λ i. g (h i))
 unfolding tab linesTo
 joined-tab zero g h = refl
 joined-tab (suc n) g h = ap (λ (l : List ℕ). g (h 0) ++ l) (joined-tab n g (λ i. h (suc i))) ∙ sym (lines-first n (λ i. g (h i)))
