@@ -56,7 +56,7 @@ numbers() {
 
 each recover 500
 each batch 400
-each steps 90
+each steps 500
 each checks 4
 limit
 numbers
