@@ -27,8 +27,10 @@ use Rattle.storage.specs.Meaning.{heldAt, meaning, Linked}
 use Rattle.readers.proofs.Readings.{cell-in, minimum-is}
 use Rattle.tables.specs.Model.{linesTo, indexAt, lenOf, heldIn}
 use Rattle.tables.proofs.Law.{lines-first, lines-same, joined-tab}
-use Rattle.state_tables.specs.Lines.{keptWord, stepLine, lineOf, replicaLine, pointerLine, entryLine, entryLines, replicaText, stateText}
-use Rattle.state_tables.specs.Model.{keptIn, stepIn, lineIn, entryIn, placeIn, entriesIn, replicaIn, scanIn, stateIn}
+use Rattle.replica_line.specs.Lines.{lineOf, replicaLine}
+use Rattle.state_tables.specs.Lines.{keptWord, stepLine, pointerLine, entryLine, entryLines, replicaText, stateText}
+use Rattle.replica_line.specs.Model.{lineIn}
+use Rattle.state_tables.specs.Model.{keptIn, stepIn, entryIn, placeIn, entriesIn, replicaIn, scanIn, stateIn}
 
 -- ---- a record's line
 

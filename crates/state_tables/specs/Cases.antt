@@ -17,7 +17,8 @@ use Rattle.definition.specs.Recovery.{held, freshState}
 use Rattle.definition.specs.Cases.Samples.{one, id, hardOf, snapshotAt, logEntry, byte, E, Ep, H, P, F, kE, kEp, logOf, plainLog, noLog, stateOf}
 use Rattle.tables.specs.Tables.{digitsWithin, decimal, row}
 use Rattle.batch_tables.specs.Lines.{hexText}
-use Rattle.state_tables.specs.Lines.{keptWord, stepLine, stepLines, replicaLine, entryLine, entryLines, stateText, stepsText}
+use Rattle.replica_line.specs.Lines.{replicaLine}
+use Rattle.state_tables.specs.Lines.{keptWord, stepLine, stepLines, entryLine, entryLines, stateText, stepsText}
 
 -- the bytes of a text, and of lines of text
 bytes : String → List ℕ

@@ -2,32 +2,23 @@
 -- entries as at most 64, an index past 2^64 - 1 is 2^64 - 1, and a command has the bytes that its cell of the store has.
 -- Assumes nothing.
 use mathlib.Core.Path.{_≡_}
-use mathlib.Core.List.{List, [], _∷_, _++_}
+use mathlib.Core.List.{List, _++_}
 use Prim.Native.Nat.{ℕ, _+_, _*_, _<_, _≤_}
 use lib.ListN.{length, getD}
-use Rattle.frontier.specs.Progress.{progressOf}
 use Rattle.codec.specs.declared.RaftWalRecord.the-variants as W
 use Rattle.codec.specs.declared.RecordBody.{RecordBody}
 use Rattle.codec.specs.declared.RecordBody.the-variants as B
-use Rattle.codec.specs.Records.{maybeHardStateOf}
-use Rattle.view.specs.declared.Header.{Header}
 use Rattle.view.specs.declared.RecoveredRaftLogEntry.{RecoveredRaftLogEntry}
-use Rattle.view.specs.Meaning.{lsnOf, snapshotOf, payloadIn, noEntry, cellAt, idOf, baseOf}
-use Rattle.view.specs.Readers.{firstIndexOf, boundaryOf, lastIndexOf, firstRetainedOf}
+use Rattle.view.specs.Meaning.{lsnOf, snapshotOf, payloadIn, noEntry, cellAt, baseOf}
 use Rattle.replay.specs.declared.Observation.{Observation}
 use Rattle.replay.specs.Plan.{answerOf}
 use Rattle.storage.specs.declared.Scan.{Scan}
 use Rattle.storage.specs.declared.RecoveredRaftStorage.{RecoveredRaftStorage}
 use Rattle.storage.specs.Model.{headAt}
-use Rattle.readers.specs.Own.{minimumOf}
 use Rattle.tables.specs.Model.{linesTo, indexAt, lenOf, heldIn, Wrote}
-use Rattle.batch_tables.specs.Lines.{spaced}
-use Rattle.state_tables.specs.Lines.{hardStateWord, pointerWord, stepLine, Line, replicaLine, pointerLine, entryLine, scanLine}
-
--- Fields, a space behind each.
-unfoldable pub spacedAll : List (List ℕ) → List ℕ
-spacedAll [] = []
-spacedAll (f ∷ fs) = spaced f ++ spacedAll fs
+use Rattle.replica_line.specs.Lines.{replicaLine}
+use Rattle.state_tables.specs.Lines.{hardStateWord, pointerWord, stepLine, pointerLine, entryLine, scanLine}
+use Rattle.replica_line.specs.Model.{lineIn}
 
 -- ---- a record's line
 
@@ -46,25 +37,6 @@ pub record Kept (d : List ℕ) (at : ℕ) (ys : List ℕ) (r : ℕ) (d′ : List
   pub full : length d < at + 53 → (r ≡ at) × (d′ ≡ d)
 
 -- ---- a replica's lines
-
--- By its header and the entry at place 0.
-abbrev pub lineIn : Header → RecoveredRaftLogEntry → Line
-lineIn h first =
-    record {
-      id = idOf h;
-      boundary = boundaryOf h;
-      progress = progressOf (h .progress);
-      committed = h .«committed_index»;
-      hard = maybeHardStateOf (h .«hard_state»);
-      hardLsn = lsnOf (h .«hard_state_lsn»);
-      pointerLsn = lsnOf (h .«snapshot_pointer_lsn»);
-      replayed = lsnOf (h .«last_replayed_lsn»);
-      minimum = minimumOf h first;
-      entries = h .len;
-      first = firstIndexOf h;
-      last = lastIndexOf h;
-      retained = lsnOf (firstRetainedOf h first);
-    }
 
 -- The line of an entry with cell k of the store.
 abbrev pub entryIn : ℕ → RecoveredRaftLogEntry → List ℕ → ℕ → List ℕ

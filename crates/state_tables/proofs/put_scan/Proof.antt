@@ -3,7 +3,8 @@
 use native.Mathlib.Omega.{arith}
 use Rattle.tables.proofs.Wrote.{then, said}
 use Rattle.state_tables.specs.Lines.{scannedWord, lastWord}
-use Rattle.state_tables.proofs.Rows.{field-is, row-4}
+use Rattle.replica_line.proofs.Rows.{field-is}
+use Rattle.state_tables.proofs.Rows.{row-4}
 use borrow.Author.Needs.{needs}
 use Rattle.state_tables.proofs.put_scan.Statement.{statement}
 use Rattle.state_tables.proofs.put_scan.Tie as tie

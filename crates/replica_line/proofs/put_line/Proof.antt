@@ -1,12 +1,12 @@
--- `state_tables::put_line` meets its contract.
+-- `replica_line::put_line` meets its contract.
 -- Assumes nothing.
 use native.Mathlib.Omega.{arith}
 use Rattle.tables.proofs.Wrote.{then, said}
-use Rattle.state_tables.specs.Lines.{logWord, replicaLine}
-use Rattle.state_tables.proofs.Rows.{group-row}
+use Rattle.replica_line.specs.Lines.{logWord, replicaLine}
+use Rattle.replica_line.proofs.Rows.{group-row}
 use borrow.Author.Needs.{needs}
-use Rattle.state_tables.proofs.put_line.Statement.{statement}
-use Rattle.state_tables.proofs.put_line.Tie as tie
+use Rattle.replica_line.proofs.put_line.Statement.{statement}
+use Rattle.replica_line.proofs.put_line.Tie as tie
 
 put-position-requires : tie.Need-put-position-requires
 put-position-requires c κs = search needs

@@ -1,11 +1,11 @@
--- `state_tables::put_maybe` meets its contract.
+-- `replica_line::put_maybe` meets its contract.
 -- Assumes nothing.
 use mathlib.Core.Path.{refl}
 use native.Mathlib.Omega.{arith}
 use Rattle.tables.proofs.Wrote.{said}
 use borrow.Author.Needs.{needs}
-use Rattle.state_tables.proofs.put_maybe.Statement.{statement}
-use Rattle.state_tables.proofs.put_maybe.Tie as tie
+use Rattle.replica_line.proofs.put_maybe.Statement.{statement}
+use Rattle.replica_line.proofs.put_maybe.Tie as tie
 
 enum-known-n : tie.Need-enum-known-n
 enum-known-n c = search needs

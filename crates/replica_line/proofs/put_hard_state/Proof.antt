@@ -1,12 +1,12 @@
--- `state_tables::put_hard_state` meets its contract.
+-- `replica_line::put_hard_state` meets its contract.
 -- Assumes nothing.
 use native.Mathlib.Omega.{arith}
 use Rattle.tables.proofs.Wrote.{then, said}
-use Rattle.state_tables.specs.Lines.{hardWord}
-use Rattle.state_tables.proofs.Rows.{spaced-4, no-hard-state}
+use Rattle.replica_line.specs.Lines.{hardWord}
+use Rattle.replica_line.proofs.Rows.{spaced-4, no-hard-state}
 use borrow.Author.Needs.{needs}
-use Rattle.state_tables.proofs.put_hard_state.Statement.{statement}
-use Rattle.state_tables.proofs.put_hard_state.Tie as tie
+use Rattle.replica_line.proofs.put_hard_state.Statement.{statement}
+use Rattle.replica_line.proofs.put_hard_state.Tie as tie
 
 enum-known-kept : tie.Need-enum-known-kept
 enum-known-kept c = search needs

@@ -1,12 +1,12 @@
--- `state_tables::put_named` meets its contract.
+-- `replica_line::put_named` meets its contract.
 -- Assumes nothing.
 use mathlib.Core.Path.{refl}
 use native.Mathlib.Omega.{arith}
 use Rattle.tables.proofs.Wrote.{then, said}
-use Rattle.state_tables.proofs.Rows.{field-is}
+use Rattle.replica_line.proofs.Rows.{field-is}
 use borrow.Author.Needs.{needs}
-use Rattle.state_tables.proofs.put_named.Statement.{statement}
-use Rattle.state_tables.proofs.put_named.Tie as tie
+use Rattle.replica_line.proofs.put_named.Statement.{statement}
+use Rattle.replica_line.proofs.put_named.Tie as tie
 
 number-in-requires : tie.Need-number-in-requires
 number-in-requires c κs = search needs

@@ -1,12 +1,12 @@
--- `state_tables::put_boundary` meets its contract.
+-- `replica_line::put_boundary` meets its contract.
 -- Assumes nothing.
 use native.Mathlib.Omega.{arith}
 use Rattle.tables.proofs.Wrote.{then, said}
-use Rattle.state_tables.specs.Lines.{boundaryWord}
-use Rattle.state_tables.proofs.Rows.{spaced-3, no-boundary}
+use Rattle.replica_line.specs.Lines.{boundaryWord}
+use Rattle.replica_line.proofs.Rows.{spaced-3, no-boundary}
 use borrow.Author.Needs.{needs}
-use Rattle.state_tables.proofs.put_boundary.Statement.{statement}
-use Rattle.state_tables.proofs.put_boundary.Tie as tie
+use Rattle.replica_line.proofs.put_boundary.Statement.{statement}
+use Rattle.replica_line.proofs.put_boundary.Tie as tie
 
 enum-known-boundary : tie.Need-enum-known-boundary
 enum-known-boundary c = search needs

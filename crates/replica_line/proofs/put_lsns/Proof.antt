@@ -1,13 +1,13 @@
--- `state_tables::put_lsns` meets its contract.
+-- `replica_line::put_lsns` meets its contract.
 -- Assumes nothing.
 use native.Mathlib.Omega.{arith}
 use Rattle.tables.proofs.Wrote.{then, said}
 use Rattle.batch_tables.specs.Lines.{spaced, minimumWord}
-use Rattle.state_tables.specs.Lines.{hardLsnWord, pointerLsnWord, replayedWord}
-use Rattle.state_tables.proofs.Rows.{spaced-pairs, named-is}
+use Rattle.replica_line.specs.Lines.{hardLsnWord, pointerLsnWord, replayedWord}
+use Rattle.replica_line.proofs.Rows.{spaced-pairs, named-is}
 use borrow.Author.Needs.{needs}
-use Rattle.state_tables.proofs.put_lsns.Statement.{statement}
-use Rattle.state_tables.proofs.put_lsns.Tie as tie
+use Rattle.replica_line.proofs.put_lsns.Statement.{statement}
+use Rattle.replica_line.proofs.put_lsns.Tie as tie
 
 minimum-of-requires : tie.Need-minimum-of-requires
 minimum-of-requires c κs = search needs

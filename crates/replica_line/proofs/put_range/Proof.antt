@@ -1,14 +1,14 @@
--- `state_tables::put_range` meets its contract.
+-- `replica_line::put_range` meets its contract.
 -- Assumes nothing.
 use mathlib.Core.Path.{ap, _∙_}
 use native.Mathlib.Omega.{arith}
 use Rattle.view.specs.Meaning.{lsnOf}
 use Rattle.tables.proofs.Wrote.{then, said}
-use Rattle.state_tables.specs.Lines.{logWord}
-use Rattle.state_tables.proofs.Rows.{field-is, row-5}
+use Rattle.replica_line.specs.Lines.{logWord}
+use Rattle.replica_line.proofs.Rows.{field-is, row-5}
 use borrow.Author.Needs.{needs}
-use Rattle.state_tables.proofs.put_range.Statement.{statement}
-use Rattle.state_tables.proofs.put_range.Tie as tie
+use Rattle.replica_line.proofs.put_range.Statement.{statement}
+use Rattle.replica_line.proofs.put_range.Tie as tie
 
 first-index-requires : tie.Need-first-index-requires
 first-index-requires c κs = search needs

@@ -1,12 +1,12 @@
--- `state_tables::put_commit` meets its contract.
+-- `replica_line::put_commit` meets its contract.
 -- Assumes nothing.
 use native.Mathlib.Omega.{arith}
 use Rattle.tables.proofs.Wrote.{then, said}
-use Rattle.state_tables.specs.Lines.{commitWord}
-use Rattle.state_tables.proofs.Rows.{spaced-2}
+use Rattle.replica_line.specs.Lines.{commitWord}
+use Rattle.replica_line.proofs.Rows.{spaced-2}
 use borrow.Author.Needs.{needs}
-use Rattle.state_tables.proofs.put_commit.Statement.{statement}
-use Rattle.state_tables.proofs.put_commit.Tie as tie
+use Rattle.replica_line.proofs.put_commit.Statement.{statement}
+use Rattle.replica_line.proofs.put_commit.Tie as tie
 
 slice-aggregate-put-bytes : tie.Need-slice-aggregate-put-bytes
 slice-aggregate-put-bytes c = search needs

@@ -1,8 +1,8 @@
--- `state_tables::number_in` meets its contract.
+-- `replica_line::number_in` meets its contract.
 -- Assumes nothing.
 use borrow.Author.Needs.{needs}
-use Rattle.state_tables.proofs.number_in.Statement.{statement}
-use Rattle.state_tables.proofs.number_in.Tie as tie
+use Rattle.replica_line.proofs.number_in.Statement.{statement}
+use Rattle.replica_line.proofs.number_in.Tie as tie
 
 enum-known-lsn : tie.Need-enum-known-lsn
 enum-known-lsn c = search needs

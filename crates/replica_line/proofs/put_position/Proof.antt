@@ -1,12 +1,12 @@
--- `state_tables::put_position` meets its contract.
+-- `replica_line::put_position` meets its contract.
 -- Assumes nothing.
 use mathlib.Core.List.{[], _∷_}
 use native.Mathlib.Omega.{arith}
 use Rattle.tables.proofs.Wrote.{then, said}
-use Rattle.state_tables.proofs.Rows.{spaced-groups, boundary-is}
+use Rattle.replica_line.proofs.Rows.{spaced-groups, boundary-is}
 use borrow.Author.Needs.{needs}
-use Rattle.state_tables.proofs.put_position.Statement.{statement}
-use Rattle.state_tables.proofs.put_position.Tie as tie
+use Rattle.replica_line.proofs.put_position.Statement.{statement}
+use Rattle.replica_line.proofs.put_position.Tie as tie
 
 snapshot-boundary-requires : tie.Need-snapshot-boundary-requires
 snapshot-boundary-requires c κs = search needs
