@@ -48,13 +48,17 @@ def rounds(program, mode, count, each):
 
 
 def peak(program, path):
-    """KiB held at most: read while the finished program waits to write its answer into a full pipe."""
+    """KiB held at most: read while the program, all but done, waits to write its answer into a full pipe."""
+    out, full = os.pipe()
+    os.write(full, bytes(fcntl.fcntl(full, SET_PIPE_SIZE, 4096)))
     with open(path, 'rb') as text:
-        running = subprocess.Popen([program], stdin=text, stdout=subprocess.PIPE)
-    fcntl.fcntl(running.stdout, SET_PIPE_SIZE, 4096)
+        running = subprocess.Popen([program], stdin=text, stdout=full)
+    os.close(full)
     time.sleep(0.5)
     held = int(re.search(r'VmHWM:\s*(\d+)', open(f'/proc/{running.pid}/status').read()).group(1))
-    running.stdout.read()
+    while os.read(out, 65536):
+        pass
+    os.close(out)
     running.wait()
     return held
 
