@@ -9,6 +9,7 @@ the folder of the oracle's built programs each answer is also compared with the 
 failing input's file and ends with 1 if any failed.
 """
 import argparse, collections, hashlib, multiprocessing, os, random, re, shutil, signal, subprocess, sys, tempfile
+from texts import plain
 
 NUMBERS = [b'0', b'1', b'2', b'7', b'8', b'9', b'63', b'64', b'65', b'255', b'256', b'257', b'4095', b'4096', b'4097', b'4294967295', b'4294967296',
            b'18446744073709551614', b'18446744073709551615']
@@ -29,13 +30,11 @@ FORMS = {
 
 def stored(program):
     """The inputs of a program, as bytes; the generated ones, which are mostly well formed, count ten times."""
-    byte = lambda m: b'\n' if m.group(0) == b'\\n' else bytes([int(m.group(1), 8)])
     inputs = []
     for name in 'texts', 'vectors':
         path = f'tests/{program}/{name}.tsv'
-        for line in open(path, 'rb') if os.path.exists(path) else []:
-            text = line.split(b'\t')[1]
-            inputs += [b'' if text == b'\\c' else re.sub(rb'\\n|\\0(\d{3})', byte, text)] * (10 if name == 'vectors' else 1)
+        for line in open(path) if os.path.exists(path) else []:
+            inputs += [plain(line.split('\t')[1])] * (10 if name == 'vectors' else 1)
     return inputs
 
 

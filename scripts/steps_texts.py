@@ -7,12 +7,8 @@ ORACLE-STEPS answers as `steps` does; JOURNALS is a folder of journals, as the o
 The texts are those of tests/recover/texts.tsv and these journals. A line is a name, the text and the answer, separated by tabs, text and
 answer escaped for `printf %b` (`\\c` for the empty text).
 """
-import os, re, subprocess, sys
-from texts import escaped
-
-
-def plain(text):
-    return b'' if text == '\\c' else re.sub(r'\\(n|0[0-7]{3})', lambda m: '\n' if m[1] == 'n' else chr(int(m[1], 8)), text).encode('latin-1')
+import os, subprocess, sys
+from texts import escaped, plain
 
 
 def texts():

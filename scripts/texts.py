@@ -7,7 +7,7 @@ ORACLE-RECOVER answers as document 01's `recover`; CASES is the folder that the 
 a name, the text and the answer, separated by tabs, text and answer escaped for `printf %b` (`\\c` for the empty text). The long texts
 of tests/recover/long.sh are made there; here they get their answers, in tests/recover/long.tsv.
 """
-import os, subprocess, sys
+import os, re, subprocess, sys
 
 SUM = '00000000000000010000000000000002000000000000000300000000000000ff'
 ENTRY = 'E 5 1 1 1 1 1 N 1'.split()
@@ -204,6 +204,11 @@ def escaped(data):
         else:
             out += chr(byte)
     return out or '\\c'
+
+
+def plain(text):
+    """The bytes that were escaped."""
+    return b'' if text == '\\c' else re.sub(r'\\(n|0[0-7]{3})', lambda m: '\n' if m[1] == 'n' else chr(int(m[1], 8)), text).encode('latin-1')
 
 
 def main():
