@@ -4,7 +4,7 @@
     scripts/benchmark.py [--oracle FOLDER] [--runs N] [--built]
 
 FOLDER is the oracle's (default ../shared/oracle); it is built without overflow checks, as a user would, and ours by rt check (--built:
-both are there already, the oracle's programs in FOLDER itself). Medians of N runs (default 9; whole processes 5 N). By the clock: run it
+both are there already, the oracle's programs in FOLDER itself). Medians of N runs (default 25; whole processes 5 N). By the clock: run it
 on a machine that does nothing else. The journal is the one that crates/bench makes: six replicas, 4,096 records. The batch is 32
 entries of 32 bytes and a hard state, on a replica that holds 32.
 """
@@ -104,7 +104,7 @@ def built(oracle, folder):
 def main():
     parser = argparse.ArgumentParser()
     parser.add_argument('--oracle', default='../shared/oracle')
-    parser.add_argument('--runs', type=int, default=9)
+    parser.add_argument('--runs', type=int, default=25)
     parser.add_argument('--built', action='store_true')
     given = parser.parse_args()
     if not os.path.exists(given.oracle):
