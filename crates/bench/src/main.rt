@@ -1,5 +1,5 @@
-// A journal of 4,096 records on six replicas, made by rule (scripts/bench.py writes the same as text), and observed again and
-// again. Standard input has a mode and a digit N for 10 N rounds: '1 N' observes it in chunks and finishes, '2 N' by one call a
+// A journal of 4,096 records on six replicas, made by rule (scripts/benchmark.py writes the same as text), and observed again
+// and again. Standard input has a mode and a digit N for 10 N rounds: '1 N' observes it in chunks and finishes, '2 N' by one call a
 // record. It prints the count of scanned records, summed over the rounds.
 use codec::Checksum;
 use codec::RaftSnapshotPointerRecord;
