@@ -1,5 +1,7 @@
 // A journal on standard input, then one batch; on standard output what preparing the batch on the recovered state answers, the commands
 // shown, and the minimum recovery LSN; or why the journal or a line was not taken. Nothing is written before all lines were read.
+#![tactic(auto)]
+
 mod printing;
 mod reading;
 

@@ -6,7 +6,7 @@ use journal::{Stop, input};
 use text::record::MaybeCount;
 
 // What was asked, or the number of the line that cannot be read.
-#[derive(Drop)]
+#[derive(Clone, Copy)]
 pub struct Asked {
     pub stop: Stop,
     pub finish: bool,
@@ -15,7 +15,7 @@ pub struct Asked {
 }
 
 // The lines behind the batch's first one.
-#[derive(Drop)]
+#[derive(Clone, Copy)]
 struct Lines {
     stop: Stop,
     given: Given,

@@ -1,5 +1,7 @@
 // The output of the program `batch`: the prepared records or a refusal, the commands shown, the minimum recovery LSN. Records have the
 // fields of a journal's lines without the LSN; a command stands there by the least number that was given the same bytes.
+#![tactic(auto)]
+
 ghost use Rattle.std.specs.Prelude.{◌≡◌, [], ◌∷◌, ◌++◌, ◌+◌, ◌*◌, ◌%◌, ◌≤◌, ◌<◌, min, length, take, drop};
 ghost use Rattle.definition.specs.Table.{same_bytes};
 ghost use Rattle.ids.specs.Identity.{identity_of};

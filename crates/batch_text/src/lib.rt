@@ -1,5 +1,7 @@
 // The lines behind a journal that say a batch: whether the recovery is finished first, whose batch it is, at most one pointer, its
 // entries, at most one hard state, and the indices whose commands are to be shown.
+#![tactic(auto)]
+
 ghost use Rattle.std.specs.Prelude.{◌≡◌, ◌<◌};
 ghost use Rattle.text.specs.Record.{line_header};
 ghost use Rattle.batch_text.specs.Line.{headed_line, finish_on, identity_on, snapshot_line, pointer_line, pointer_on, hard_state_line, hard_state_on, show_head, payload_on, entry_line, change_number, entry_on, line_on};
@@ -21,14 +23,14 @@ pub const MAX_ENTRY_LINES: usize = 64;
 // The most lines `show`, a limit of our own: there is no heap to keep any number of them. The next one cannot be read.
 pub const MAX_SHOWS: usize = 4096;
 
-#[derive(Drop)]
+#[derive(Clone, Copy)]
 pub enum MaybeIdentity {
     None,
     Some(RaftReplicaIdentity),
 }
 
 // An entry of a batch by its numbers, as BatchEntries keeps them.
-#[derive(Drop)]
+#[derive(Clone, Copy)]
 pub struct BatchEntry {
     pub index: u64,
     pub term: u64,
@@ -38,7 +40,7 @@ pub struct BatchEntry {
 }
 
 // A line behind the batch's first one, or that it cannot be read.
-#[derive(Drop)]
+#[derive(Clone, Copy)]
 pub enum BatchLine {
     None,
     Pointer(RaftSnapshotPointerRecord),
@@ -48,14 +50,14 @@ pub enum BatchLine {
 }
 
 // A batch as far as its lines were read, and how many lines `show` there were.
-#[derive(Drop)]
+#[derive(Clone, Copy)]
 pub struct Given {
     pub batch: RaftPersistenceBatch,
     pub shows: usize,
 }
 
 // The same after one more line, or that the line may not stand there.
-#[derive(Drop)]
+#[derive(Clone, Copy)]
 pub struct Added {
     pub given: Given,
     pub taken: bool,

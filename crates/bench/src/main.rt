@@ -1,6 +1,8 @@
 // A journal of 4,096 records on six replicas, made by rule (scripts/benchmark.py writes the same as text), and observed again
 // and again. Standard input has a mode and a digit N for 10 N rounds: '1 N' observes it in chunks and finishes, '2 N' by one call a
 // record. It prints the count of scanned records, summed over the rounds.
+#![tactic(auto)]
+
 use codec::{Checksum, RaftSnapshotPointerRecord, RaftWalRecord, RecordBody, WalRecord};
 use ids::{Lsn, RaftReplicaIdentity};
 use libc::{STDIN_FILENO, STDOUT_FILENO};
@@ -8,20 +10,20 @@ use recovery::observing;
 use storage::RecoveredRaftStorage;
 
 // The last index of each replica, and the command of its last entry.
-#[derive(Drop)]
+#[derive(Clone, Copy)]
 struct Replicas {
     last: [u64; 6],
     command: [usize; 6],
 }
 
 // The records of a chunk, and what the replicas are then.
-#[derive(Drop)]
+#[derive(Clone, Copy)]
 struct Making {
     records: [WalRecord; 256],
     replicas: Replicas,
 }
 
-#[derive(Drop)]
+#[derive(Clone, Copy)]
 struct Chunk {
     records: [WalRecord; 256],
 }

@@ -1,6 +1,8 @@
 // A replica that holds 32 entries of 32 bytes, and a batch of 32 more with a hard state, prepared again and again. Standard input has
 // a digit N for 1,000 N times. It prints how many records were prepared. (A program of its own: with both jobs in one, what they
 // share is compiled in less well, and observing takes longer.)
+#![tactic(auto)]
+
 use batches::{BatchEntries, RaftPersistenceBatch};
 use codec::{HardState, MaybeHardState, MaybePointer, RaftWalRecord, RecordBody, Vote, WalRecord};
 use ids::Lsn;

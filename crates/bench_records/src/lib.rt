@@ -1,4 +1,6 @@
 // What the benchmarks share: a record's parts, and numbers.
+#![tactic(auto)]
+
 ghost use Rattle.std.specs.Prelude.{◌<◌};
 
 use codec::{

@@ -3,6 +3,8 @@
 //   progress-next INDEX TERM APPLIED INDEX TERM APPLIED      the new one, then the one before
 //   hard TERM VOTE COMMIT [TERM VOTE COMMIT]                 the same; '-' for no vote
 //   pointer FIELDS / FIELDS|-                                the same; ten fields, from version to checksum
+#![tactic(auto)]
+
 ghost use Rattle.std.specs.Prelude.{◌+◌, ◌≤◌, ◌<◌, ◌≡◌};
 
 use codec::{Checksum, HardState, MaybeHardState, MaybePointer, RaftSnapshotPointerRecord, Vote};
@@ -12,7 +14,7 @@ use libc::{STDIN_FILENO, STDOUT_FILENO};
 
 // One field of a line, read byte by byte: its length (65 for any longer), its first 8 bytes and the 8 after them, its value as a
 // decimal number and as hex digits.
-#[derive(Drop)]
+#[derive(Clone, Copy)]
 struct Field {
     len: usize,
     head: u64,
@@ -25,7 +27,7 @@ struct Field {
 
 // A line: its fields so far, of which no question has more than 22; whether it has more; the field that is read; whether a byte
 // of the line was read.
-#[derive(Drop)]
+#[derive(Clone, Copy)]
 struct Line {
     fields: [Field; 22],
     count: usize,
@@ -34,37 +36,37 @@ struct Line {
     open: bool,
 }
 
-#[derive(Drop)]
+#[derive(Clone, Copy)]
 enum Reply {
     Malformed,
     Checked(Checked),
 }
 
-#[derive(Drop)]
+#[derive(Clone, Copy)]
 struct Number {
     ok: bool,
     value: u64,
 }
 
-#[derive(Drop)]
+#[derive(Clone, Copy)]
 enum ReadProgress {
     Malformed,
     Read(RaftProgress),
 }
 
-#[derive(Drop)]
+#[derive(Clone, Copy)]
 enum ReadVote {
     Malformed,
     Read(Vote),
 }
 
-#[derive(Drop)]
+#[derive(Clone, Copy)]
 enum ReadHardState {
     Malformed,
     Read(HardState),
 }
 
-#[derive(Drop)]
+#[derive(Clone, Copy)]
 enum ReadPointer {
     Malformed,
     Read(RaftSnapshotPointerRecord),
@@ -542,7 +544,7 @@ fn read_bytes(l: Line, bytes: &[u8]) -> Line {
     t
 }
 
-#[derive(Drop)]
+#[derive(Clone, Copy)]
 struct More {
     line: Line,
     more: bool,

@@ -1,4 +1,6 @@
 // The clauses of soundness that look at one header, or at one held entry and its cell.
+#![tactic(auto)]
+
 ghost use Rattle.std.specs.Prelude.{◌≡◌, [], length};
 ghost use Rattle.definition.specs.Recovery.{nonzero_identity, whole_boundary, pointers_boundary, boundarys_progress, nonzero_vote, reached_by};
 ghost use Rattle.ids.specs.Identity.{identity_of};

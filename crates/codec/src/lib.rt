@@ -1,4 +1,6 @@
 // Decoded records, the checks of their form (3 to 22), and when a hard state or a pointer may follow another (33 to 36, 39, 40).
+#![tactic(auto)]
+
 ghost use Rattle.std.specs.Prelude.{◌≡◌, List, ℕ};
 ghost use Rattle.std.proofs.Math.Option.{some};
 ghost use Rattle.definition.specs.Table.{first_of, if_some};
@@ -20,7 +22,7 @@ pub const RAFT_SNAPSHOT_POINTER_RECORD_VERSION: u32 = 1;
 pub const MAX_COMMAND_BYTES: usize = 64;
 
 // What a change of configuration does.
-#[derive(Drop)]
+#[derive(Clone, Copy)]
 pub enum ConfChangeKind {
     AddLearner,
     PromoteLearner,
@@ -28,7 +30,7 @@ pub enum ConfChangeKind {
 }
 
 // A command, as a place and a length in the bytes lent beside it, or a change of configuration.
-#[derive(Drop)]
+#[derive(Clone, Copy)]
 pub enum DurableRaftEntryPayload {
     Normal {
         place: usize,
@@ -42,7 +44,7 @@ pub enum DurableRaftEntryPayload {
 }
 
 // One log entry of a replica.
-#[derive(Drop)]
+#[derive(Clone, Copy)]
 pub struct RaftLogEntryRecord {
     pub format_version: u32,
     pub identity: RaftReplicaIdentity,
@@ -52,28 +54,28 @@ pub struct RaftLogEntryRecord {
 }
 
 // The replica voted for, if any.
-#[derive(Drop)]
+#[derive(Clone, Copy)]
 pub enum Vote {
     None,
     Some(ReplicaId),
 }
 
 // Term, vote and commit index.
-#[derive(Drop)]
+#[derive(Clone, Copy)]
 pub struct HardState {
     pub current_term: u64,
     pub voted_for: Vote,
     pub commit: u64,
 }
 
-#[derive(Drop)]
+#[derive(Clone, Copy)]
 pub enum MaybeHardState {
     None,
     Some(HardState),
 }
 
 // One hard state of a replica.
-#[derive(Drop)]
+#[derive(Clone, Copy)]
 pub struct RaftHardStateRecord {
     pub format_version: u32,
     pub identity: RaftReplicaIdentity,
@@ -81,7 +83,7 @@ pub struct RaftHardStateRecord {
 }
 
 // Four numbers of 64 bits.
-#[derive(Drop)]
+#[derive(Clone, Copy)]
 pub struct Checksum {
     pub a: u64,
     pub b: u64,
@@ -90,7 +92,7 @@ pub struct Checksum {
 }
 
 // Where a replica's snapshot is; `rest` is the host's number for configuration, removal proof and file name.
-#[derive(Drop)]
+#[derive(Clone, Copy)]
 pub struct RaftSnapshotPointerRecord {
     pub format_version: u32,
     pub identity: RaftReplicaIdentity,
@@ -103,14 +105,14 @@ pub struct RaftSnapshotPointerRecord {
     pub checksum: Checksum,
 }
 
-#[derive(Drop)]
+#[derive(Clone, Copy)]
 pub enum MaybePointer {
     None,
     Some(RaftSnapshotPointerRecord),
 }
 
 // A replica's record, by kind.
-#[derive(Drop)]
+#[derive(Clone, Copy)]
 pub enum RaftWalRecord {
     Entry(RaftLogEntryRecord),
     HardState(RaftHardStateRecord),
@@ -118,14 +120,14 @@ pub enum RaftWalRecord {
 }
 
 // A record of no Raft kind, or a replica's.
-#[derive(Drop)]
+#[derive(Clone, Copy)]
 pub enum RecordBody {
     Foreign,
     Raft(RaftWalRecord),
 }
 
 // A record of the journal.
-#[derive(Drop)]
+#[derive(Clone, Copy)]
 pub struct WalRecord {
     pub lsn: Lsn,
     pub body: RecordBody,

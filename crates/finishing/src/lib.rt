@@ -1,4 +1,6 @@
 // Finishing: each held replica's hard state is raised to the largest of its terms.
+#![tactic(auto)]
+
 ghost use Rattle.std.specs.Prelude.{◌≡◌};
 ghost use Rattle.storage.specs.Model.{finished_storage};
 ghost use Rattle.soundness.specs.Sound.{Limits};
@@ -8,14 +10,14 @@ use ids::Refusal;
 use storage::RecoveredRaftStorage;
 
 // What finishing is answered.
-#[derive(Drop)]
+#[derive(Clone, Copy)]
 pub enum FinishAnswer {
     Finished,
     Refused(Refusal),
 }
 
 // The answer, and the state after it.
-#[derive(Drop)]
+#[derive(Clone, Copy)]
 pub struct Finished {
     pub answer: FinishAnswer,
     pub state: RecoveredRaftStorage,

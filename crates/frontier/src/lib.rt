@@ -1,4 +1,6 @@
 // How far a replica's log is truncated and applied, and when one progress may follow another (51 to 56).
+#![tactic(auto)]
+
 ghost use Rattle.std.specs.Prelude.{◌≡◌};
 ghost use Rattle.definition.specs.Frontier.{new_progress, validate_progress, validate_progress_successor};
 ghost use Rattle.ids.specs.Refusal.{checked_of};
@@ -7,7 +9,7 @@ ghost use Rattle.frontier.specs.Progress.{progress_of, new_of};
 use ids::{Checked, Refusal};
 
 // The last index that truncation removed, the term that stood there, and the last index applied.
-#[derive(Drop)]
+#[derive(Clone, Copy)]
 pub struct RaftProgress {
     pub truncated_through_index: u64,
     pub truncated_through_term: u64,
@@ -15,7 +17,7 @@ pub struct RaftProgress {
 }
 
 // The answer of `RaftProgress::new`.
-#[derive(Drop)]
+#[derive(Clone, Copy)]
 pub enum NewProgress {
     Ok(RaftProgress),
     Refused(Refusal),

@@ -1,11 +1,13 @@
 // Numbers that must not be taken for one another, a replica's identity, and document 01's refusals.
+#![tactic(auto)]
+
 ghost use Rattle.std.specs.Prelude.{◌≡◌};
 ghost use Rattle.definition.specs.Records.{same, before as isBefore};
 ghost use Rattle.ids.specs.Identity.{identity_of};
 ghost use Rattle.ids.specs.Refusal.{number_of};
 
 // The place of a record in the journal.
-#[derive(Drop)]
+#[derive(Clone, Copy)]
 pub struct Lsn(pub u64);
 
 impl Lsn {
@@ -13,15 +15,15 @@ impl Lsn {
 }
 
 // The number of a Raft group.
-#[derive(Drop)]
+#[derive(Clone, Copy)]
 pub struct RaftGroupId(pub u64);
 
 // The number of a replica in its group.
-#[derive(Drop)]
+#[derive(Clone, Copy)]
 pub struct ReplicaId(pub u64);
 
 // One replica of one group.
-#[derive(Drop)]
+#[derive(Clone, Copy)]
 pub struct RaftReplicaIdentity {
     pub raft_group_id: RaftGroupId,
     pub replica_id: ReplicaId,
@@ -51,7 +53,7 @@ pub fn precedes(a: RaftReplicaIdentity, b: RaftReplicaIdentity) -> bool
 }
 
 // Why a call is refused, in document 01's order; `number` gives its number there.
-#[derive(Drop)]
+#[derive(Clone, Copy)]
 pub enum Refusal {
     // 1. The state is not sound, or the store's length is not 32,768 (added).
     Unsound,
@@ -234,7 +236,7 @@ impl Refusal {
 }
 
 // The answer of a check.
-#[derive(Drop)]
+#[derive(Clone, Copy)]
 pub enum Checked {
     Ok,
     Refused(Refusal),

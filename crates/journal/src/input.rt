@@ -8,14 +8,14 @@ use text::record::MaybeRecord;
 use text::{command, line, record};
 
 // What was read and not yet used: the bytes of the buffer from `at` up to `len`.
-#[derive(Drop)]
+#[derive(Clone, Copy)]
 pub struct Window {
     pub at: usize,
     pub len: usize,
 }
 
 // A line, or that there is none, and what is left then.
-#[derive(Drop)]
+#[derive(Clone, Copy)]
 pub struct Taken {
     pub line: Line,
     pub found: bool,
@@ -23,7 +23,7 @@ pub struct Taken {
 }
 
 // A command's length, or that its line is missing or cannot be read, and what is left then.
-#[derive(Drop)]
+#[derive(Clone, Copy)]
 pub struct TakenCommand {
     pub len: MaybeLen,
     pub window: Window,
@@ -85,7 +85,7 @@ pub fn next_line(buffer: &mut [u8], window: Window) -> Taken {
 }
 
 // A record, or that its line is missing or cannot be read, and what is left then.
-#[derive(Drop)]
+#[derive(Clone, Copy)]
 pub struct TakenRecord {
     pub record: MaybeRecord,
     pub window: Window,

@@ -1,5 +1,7 @@
 // A journal on standard input, from its first line to its last record, or to the first line that is refused or cannot be read.
 // What a read brings is not known to a contract: these functions promise that they end and stay inside their buffers.
+#![tactic(auto)]
+
 pub mod input;
 
 ghost use Rattle.std.specs.Prelude.{◌≡◌, ◌<◌, ◌≤◌, false};
@@ -15,7 +17,7 @@ use text::record;
 use text::record::{MaybeCount, MaybeRecord};
 
 // Why reading stopped: at a line that cannot be read, at a refused record, or behind the last record.
-#[derive(Drop)]
+#[derive(Clone, Copy)]
 pub enum Stop {
     None,
     Malformed(u64),
@@ -23,7 +25,7 @@ pub enum Stop {
 }
 
 // What was recovered, and for who reads on: how many commands were given, what is left of the input, and the number of its next line.
-#[derive(Drop)]
+#[derive(Clone, Copy)]
 pub struct Ended {
     pub stop: Stop,
     pub state: RecoveredRaftStorage,
@@ -34,7 +36,7 @@ pub struct Ended {
 
 // What stands before the records: how many commands and records are given and what is left of the input, or the line that cannot be
 // read.
-#[derive(Drop)]
+#[derive(Clone, Copy)]
 pub struct Opened {
     pub stop: Stop,
     pub commands: usize,
@@ -43,14 +45,14 @@ pub struct Opened {
 }
 
 // How many command lines were read, up to one that cannot be, and what is left of the input.
-#[derive(Drop)]
+#[derive(Clone, Copy)]
 struct Commands {
     read: usize,
     window: Window,
 }
 
 // Up to 256 records, whether the line behind them cannot be read, and what is left of the input.
-#[derive(Drop)]
+#[derive(Clone, Copy)]
 pub struct Chunk {
     pub records: [WalRecord; 256],
     pub count: usize,

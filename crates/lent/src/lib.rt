@@ -1,4 +1,6 @@
 // What is lent: a replica's header, whose commit is advanced, and the entries of a batch as a list of records.
+#![tactic(auto)]
+
 ghost use Rattle.std.specs.Prelude.{◌≡◌, cond, [], ◌∷◌, ◌<◌, ◌≤◌, ltb, length, get_or, take};
 ghost use Rattle.definition.specs.Table.{first_of};
 ghost use Rattle.ids.specs.Refusal.{checked_of};
@@ -45,7 +47,7 @@ pub fn advance_commit(header: &mut Header, commit: u64) -> Checked
 }
 
 // An entry of a batch; a command is a place and a length in the bytes lent beside it.
-#[derive(Drop)]
+#[derive(Clone, Copy)]
 pub struct BatchEntry {
     pub index: u64,
     pub term: u64,

@@ -1,4 +1,6 @@
 // Preparing a batch of a replica before it is written: tried on a copy of what is kept, which itself is never written.
+#![tactic(auto)]
+
 ghost use Rattle.std.specs.Prelude.{◌≡◌, ◌<◌, ◌≤◌};
 ghost use Rattle.storage.specs.Model.{entries_in};
 ghost use Rattle.preview.specs.Preview.{ran_of};
@@ -19,13 +21,13 @@ use view::RecoveredRaftLogEntry;
 pub mod prepare;
 
 // A record of the answer; one of no Raft kind is the blank record.
-#[derive(Drop)]
+#[derive(Clone, Copy)]
 pub struct PreparedRecord {
     pub body: RecordBody,
 }
 
 // Whether the batch may be written, and its records in order: pointer, entries, hard state. Places past the count are blank.
-#[derive(Drop)]
+#[derive(Clone, Copy)]
 pub struct PreparedBatch {
     pub answer: Prepared,
     pub count: usize,

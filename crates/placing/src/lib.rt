@@ -1,4 +1,6 @@
 // A place is opened for a replica that is not held: in the arrays of a state and in its store.
+#![tactic(auto)]
+
 ghost use Rattle.std.specs.Prelude.{◌≡◌, ◌+◌, ◌*◌, ◌≤◌};
 ghost use Rattle.store.specs.Splice.{part, splice};
 ghost use Rattle.view.specs.Model.{empty_header};

@@ -1,4 +1,6 @@
 // The entries of a batch, one after the other, on a preview of the replica's log.
+#![tactic(auto)]
+
 ghost use Rattle.std.specs.Prelude.{◌≡◌, ◌<◌, ◌≤◌};
 ghost use Rattle.replay.specs.Plan.{planned, Replayable};
 ghost use Rattle.replay.specs.Plan.{answer_of};
@@ -12,7 +14,7 @@ use view::{Header, RecoveredRaftLogEntry};
 
 // The log as the entries so far would leave it, and the LSN of the last of them. The commands stand in a block of 4,096 bytes
 // that is lent beside it.
-#[derive(Drop)]
+#[derive(Clone, Copy)]
 pub struct Preview {
     pub head: Header,
     pub entries: [RecoveredRaftLogEntry; 64],
@@ -20,13 +22,13 @@ pub struct Preview {
 }
 
 // Whether all was taken, or what refused the first entry that was not.
-#[derive(Drop)]
+#[derive(Clone, Copy)]
 pub enum Prepared {
     Ready,
     Refused(Refusal),
 }
 
-#[derive(Drop)]
+#[derive(Clone, Copy)]
 pub struct Extended {
     pub answer: Prepared,
     pub preview: Preview,

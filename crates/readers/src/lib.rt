@@ -1,5 +1,7 @@
 // What is read of a recovered state and the store that is lent beside it. Where these are not sound every reader refuses by 1,
 // and no command is shown.
+#![tactic(auto)]
+
 ghost use Rattle.std.specs.Prelude.{◌≡◌, ◌<◌, ◌≤◌, length, get_or};
 ghost use Rattle.std.proofs.Math.ListN.{get_elem?};
 ghost use Rattle.definition.specs.Table.{◌=?◌};
@@ -16,56 +18,56 @@ use storage::{Found, RecoveredRaftStorage};
 use view::{Header, MaybeBoundary, MaybeIndex, MaybeLsn, Place, RecoveredRaftLogEntry};
 
 // Answers: what is read, or why nothing is.
-#[derive(Drop)]
+#[derive(Clone, Copy)]
 pub enum ReadCount {
     Read(usize),
     Refused(Refusal),
 }
 
-#[derive(Drop)]
+#[derive(Clone, Copy)]
 pub enum ReadNumber {
     Read(u64),
     Refused(Refusal),
 }
 
-#[derive(Drop)]
+#[derive(Clone, Copy)]
 pub enum ReadFlag {
     Read(bool),
     Refused(Refusal),
 }
 
-#[derive(Drop)]
+#[derive(Clone, Copy)]
 pub enum ReadLsn {
     Read(MaybeLsn),
     Refused(Refusal),
 }
 
-#[derive(Drop)]
+#[derive(Clone, Copy)]
 pub enum ReadIndex {
     Read(MaybeIndex),
     Refused(Refusal),
 }
 
-#[derive(Drop)]
+#[derive(Clone, Copy)]
 pub enum ReadBoundary {
     Read(MaybeBoundary),
     Refused(Refusal),
 }
 
-#[derive(Drop)]
+#[derive(Clone, Copy)]
 pub enum ReadReplica {
     Read(Header),
     Refused(Refusal),
 }
 
-#[derive(Drop)]
+#[derive(Clone, Copy)]
 pub enum ReadPlace {
     None,
     Some(Header),
     Refused(Refusal),
 }
 
-#[derive(Drop)]
+#[derive(Clone, Copy)]
 pub enum ReadEntry {
     None,
     Some(RecoveredRaftLogEntry),
@@ -73,7 +75,7 @@ pub enum ReadEntry {
 }
 
 // A replica's place and its header.
-#[derive(Drop)]
+#[derive(Clone, Copy)]
 pub struct Own {
     pub place: usize,
     pub head: Header,

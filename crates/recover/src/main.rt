@@ -1,5 +1,7 @@
 // Document 01's `recover`: a journal on standard input; on standard output the tables, the first refusal, or the first line that
 // cannot be read.
+#![tactic(auto)]
+
 ghost use Rattle.io.specs.Counts.{IsPrefixLen};
 
 use journal::{Ended, Stop};

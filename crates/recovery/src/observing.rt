@@ -11,7 +11,7 @@ use view::RaftLogReplayOutcome;
 
 // How many records of a chunk were taken, the answer to the last one that was observed (a refusal where one ended it), and the
 // state then.
-#[derive(Drop)]
+#[derive(Clone, Copy)]
 pub struct ObservedChunk {
     pub taken: usize,
     pub answer: Observation,
@@ -19,7 +19,7 @@ pub struct ObservedChunk {
 }
 
 // The answer, and the state after it.
-#[derive(Drop)]
+#[derive(Clone, Copy)]
 pub struct Observed {
     pub answer: Observation,
     pub state: RecoveredRaftStorage,

@@ -1,5 +1,7 @@
 // What a record does to its replica: decided on the header and the two entries that it looks at, its bytes written to the
 // replica's block of the store.
+#![tactic(auto)]
+
 ghost use Rattle.std.specs.Prelude.{◌≡◌, ◌-◌, ◌≤◌, length};
 ghost use Rattle.view.specs.Decisions.{outcome_of};
 ghost use Rattle.view.specs.Model.{renewed_entry};
@@ -13,7 +15,7 @@ use view::{
 };
 
 // What a record is answered.
-#[derive(Drop)]
+#[derive(Clone, Copy)]
 pub enum Observation {
     Counted,
     Appended,
@@ -25,7 +27,7 @@ pub enum Observation {
 
 // What stands in the replica's places then: the header, the entry at the place that was looked at, and how many entries go
 // from the front.
-#[derive(Drop)]
+#[derive(Clone, Copy)]
 pub struct Change {
     pub answer: Observation,
     pub head: Header,

@@ -1,4 +1,6 @@
 // A replica's line, as the program `steps` prints it: decimal numbers, `-` for none, single spaces, a newline (10) at its end.
+#![tactic(auto)]
+
 ghost use Rattle.std.specs.Prelude.{◌≡◌, [], ◌∷◌, ◌++◌, ◌+◌, ◌≤◌, length};
 ghost use Rattle.frontier.specs.Progress.{progress_of};
 ghost use Rattle.ids.specs.Identity.{identity_of};

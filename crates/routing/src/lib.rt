@@ -1,5 +1,7 @@
 // What a record is before its replica is looked for, and the index that it looks at. specs/ has the model of what an observed record
 // does to the state, proofs/ its ties to the definition.
+#![tactic(auto)]
+
 ghost use Rattle.std.specs.Prelude.{◌≡◌, ◌<◌};
 ghost use Rattle.definition.specs.Table.{first_of};
 ghost use Rattle.ids.specs.Refusal.{checked_of};
@@ -41,7 +43,7 @@ fn check_scan(scan: Scan, lsn: Lsn) -> Checked
 }
 
 // What a record is before its replica is looked for, with the scan that counts it.
-#[derive(Drop)]
+#[derive(Clone, Copy)]
 pub enum Admission {
     Refused(Refusal),
     Counted(Scan),

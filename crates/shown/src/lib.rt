@@ -1,4 +1,6 @@
 // The command shown for a previewed index: a part of the store or of the bytes lent with the batch.
+#![tactic(auto)]
+
 ghost use Rattle.std.specs.Prelude.{◌≡◌, List, ℕ, ◌<◌, ◌≤◌, take, drop};
 ghost use Rattle.definition.specs.Batch.{shown_bytes, supplied};
 ghost use Rattle.batches.specs.Meaning.{entries_of};
@@ -12,7 +14,7 @@ use storage::RecoveredRaftStorage;
 use view::{EntryPayload, Place};
 
 // What is shown: nothing, or where a command begins in the store or in the lent bytes, and its length.
-#[derive(Drop)]
+#[derive(Clone, Copy)]
 pub enum Shown {
     Nothing,
     OfLog { place: usize, len: usize },
@@ -20,7 +22,7 @@ pub enum Shown {
 }
 
 // Where a command of the batch begins in the lent bytes, if the batch supplied the index.
-#[derive(Drop)]
+#[derive(Clone, Copy)]
 pub enum Supplied {
     None,
     At(usize),

@@ -1,4 +1,6 @@
 // The test of soundness: the headers, the held entries and their cells, and zeros in the rest of each block and of the store.
+#![tactic(auto)]
+
 ghost use Rattle.std.specs.Prelude.{◌≡◌, ◌&&◌, cond, ◌≤◌};
 ghost use Rattle.soundness.specs.Sound.{heads_rise, sound_test};
 

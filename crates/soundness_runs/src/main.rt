@@ -1,5 +1,7 @@
 // States made by hand, sound and not, through the library: odd ones must be taken, and each broken clause of soundness is refused by 1
 // with state and store as they were. And how many records a chunk takes.
+#![tactic(auto)]
+
 mod broken;
 mod odd;
 mod records;

@@ -157,7 +157,7 @@ fn kind_number(kind: ConfChangeKind) -> u64 {
 }
 
 // A payload as three numbers: 0 for a command or its change's kind, then length, or version and replica.
-#[derive(Drop)]
+#[derive(Clone, Copy)]
 struct Numbers {
     kind: u64,
     first: u64,

@@ -6,7 +6,7 @@ use replay::Observation;
 use storage::RecoveredRaftStorage;
 
 // Both answers, whether state and store stayed as they were, and whether they are sound.
-#[derive(Drop)]
+#[derive(Clone, Copy)]
 struct Tried {
     observed: Observation,
     finished: FinishAnswer,
@@ -15,13 +15,13 @@ struct Tried {
 }
 
 // One answer, and whether it left all as it was.
-#[derive(Drop)]
+#[derive(Clone, Copy)]
 struct Observing {
     answer: Observation,
     kept: bool,
 }
 
-#[derive(Drop)]
+#[derive(Clone, Copy)]
 struct Finishing {
     answer: FinishAnswer,
     kept: bool,

@@ -1,5 +1,7 @@
 // The output of the program `steps`: what each record was answered, and a whole state. Decimal numbers, `-` for none, single spaces, a
 // newline (10) at the end of each line.
+#![tactic(auto)]
+
 ghost use Rattle.std.specs.Prelude.{[], ◌∷◌, ◌+◌, ◌*◌, ◌≤◌, ◌<◌, length, take};
 ghost use Rattle.definition.specs.Records.{normal, inside};
 ghost use Rattle.view.specs.Meaning.{snapshot_of, payload_in, cell_at};

@@ -1,5 +1,7 @@
 // A journal on standard input, observed to its end, past refusals too; on standard output what each record was answered, the state, and the
 // state once more when it is finished; or the first line that cannot be read. Nothing is written before all lines were read.
+#![tactic(auto)]
+
 use codec::WalRecord;
 use journal::Stop;
 use journal::input::Window;
@@ -8,14 +10,14 @@ use recovery::observing;
 use storage::RecoveredRaftStorage;
 
 // The state, and where the lines of the records end.
-#[derive(Drop)]
+#[derive(Clone, Copy)]
 struct Lines {
     state: RecoveredRaftStorage,
     end: usize,
 }
 
 // The same behind the last record, what is left of the input and the number of its next line; or the line that cannot be read.
-#[derive(Drop)]
+#[derive(Clone, Copy)]
 struct Steps {
     stop: Stop,
     state: RecoveredRaftStorage,

@@ -1,4 +1,6 @@
 // What is recovered of every replica: its log in place, its command bytes in a store that is lent beside it.
+#![tactic(auto)]
+
 ghost use Rattle.std.specs.Prelude.{◌≡◌, ◌≤◌};
 ghost use Rattle.storage.specs.Model.{no_header, fresh_storage};
 ghost use Rattle.storage.specs.Place.{owners_of, stands_at};
@@ -12,7 +14,7 @@ use ids::{Lsn, RaftGroupId, RaftReplicaIdentity, ReplicaId};
 use view::{EntryPayload, Header, MaybeLsn, RecoveredRaftLogEntry};
 
 // How many records were scanned, and the last one's LSN.
-#[derive(Drop)]
+#[derive(Clone, Copy)]
 pub struct Scan {
     pub scanned_records: u64,
     pub last_scanned_lsn: MaybeLsn,
@@ -20,7 +22,7 @@ pub struct Scan {
 
 // The replicas held, in places that ascend by identity. Entry place q of replica place p is entries[64 * p + q]; its command's
 // bytes are store[4096 * p + 64 * q ..].
-#[derive(Drop)]
+#[derive(Clone, Copy)]
 pub struct RecoveredRaftStorage {
     pub heads: [Header; 8],
     pub entries: [RecoveredRaftLogEntry; 512],
@@ -88,7 +90,7 @@ impl RecoveredRaftStorage {
 }
 
 // Where a replica is held, or the place that would be opened for it.
-#[derive(Drop)]
+#[derive(Clone, Copy)]
 pub enum Found {
     At(usize),
     Missing(usize),

@@ -1,5 +1,7 @@
 // The output of the program `recover` (document 01): the tables of a finished state, a refusal, a malformed line. Decimal numbers,
 // single spaces, a newline (10) at the end of each line.
+#![tactic(auto)]
+
 ghost use Rattle.std.specs.Prelude.{◌≡◌, [], ◌∷◌, ◌++◌, ◌+◌, ◌*◌, ◌≤◌, ◌<◌, min, length, get_or};
 ghost use Rattle.ids.specs.Identity.{identity_of};
 ghost use Rattle.codec.specs.Records.{vote_of, maybe_hard_state_of};

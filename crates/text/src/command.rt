@@ -6,7 +6,7 @@ ghost use Rattle.text.specs.Command.{blank_command, pushed_command, pushed_out, 
 use crate::field;
 
 // What a command line is so far.
-#[derive(Drop)]
+#[derive(Clone, Copy)]
 pub struct Command {
     // its bytes; 131 stands for 131 and more
     pub digits: usize,
@@ -17,14 +17,14 @@ pub struct Command {
 }
 
 // A command line read on: `next` is behind the newline where the line ended, else behind the bytes.
-#[derive(Drop)]
+#[derive(Clone, Copy)]
 pub struct ReadCommand {
     pub command: Command,
     pub next: usize,
     pub ended: bool,
 }
 
-#[derive(Drop)]
+#[derive(Clone, Copy)]
 pub enum MaybeLen {
     None,
     Some(usize),

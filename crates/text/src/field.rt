@@ -4,7 +4,7 @@ ghost use Rattle.text.specs.Text.{hex_digit};
 ghost use Rattle.text.specs.Field.{counted, packed_head, packed_tail, pushed_decimal, pushed_field, pushed_sum, blank_field, blank_sum, scanned_field, scanned_sum};
 
 // What a field is so far.
-#[derive(Drop)]
+#[derive(Clone, Copy)]
 pub struct Field {
     // its bytes; 17 stands for 17 and more
     pub len: usize,
@@ -18,7 +18,7 @@ pub struct Field {
 }
 
 // What a field is as a checksum so far: the last of each 16 digits stand in d.
-#[derive(Drop)]
+#[derive(Clone, Copy)]
 pub struct Sum {
     // its bytes; 65 stands for 65 and more
     pub len: usize,
@@ -31,21 +31,21 @@ pub struct Sum {
 }
 
 // A number as far as it was read.
-#[derive(Drop)]
+#[derive(Clone, Copy)]
 pub struct Decimal {
     pub decimal: bool,
     pub value: u64,
 }
 
 // A field read on, and where it stopped.
-#[derive(Drop)]
+#[derive(Clone, Copy)]
 pub struct Scanned {
     pub field: Field,
     pub at: usize,
 }
 
 // The same with the checksum beside it.
-#[derive(Drop)]
+#[derive(Clone, Copy)]
 pub struct ScannedSum {
     pub field: Field,
     pub sum: Sum,

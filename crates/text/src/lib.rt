@@ -1,4 +1,6 @@
 // The line format of a journal, read as a stream: bytes come in pieces of any size, and no line is kept.
+#![tactic(auto)]
+
 pub mod command;
 pub mod field;
 pub mod line;

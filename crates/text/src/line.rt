@@ -6,7 +6,7 @@ use crate::field;
 use crate::field::{Field, Sum};
 
 // What a line is so far.
-#[derive(Drop)]
+#[derive(Clone, Copy)]
 pub struct Line {
     // the closed fields
     pub fields: [Field; 12],
@@ -19,7 +19,7 @@ pub struct Line {
 }
 
 // A line read on: `next` is behind the newline where the line ended, else behind the bytes.
-#[derive(Drop)]
+#[derive(Clone, Copy)]
 pub struct ReadLine {
     pub line: Line,
     pub next: usize,

@@ -10,19 +10,19 @@ use codec::{
 };
 use ids::{Lsn, RaftGroupId, RaftReplicaIdentity, ReplicaId};
 
-#[derive(Drop)]
+#[derive(Clone, Copy)]
 pub enum MaybeRecord {
     None,
     Some(WalRecord),
 }
 
-#[derive(Drop)]
+#[derive(Clone, Copy)]
 pub enum MaybePayload {
     None,
     Some(DurableRaftEntryPayload),
 }
 
-#[derive(Drop)]
+#[derive(Clone, Copy)]
 pub enum MaybeCount {
     None,
     Some(u64),

@@ -1,4 +1,6 @@
 // One replica's log: what is kept of it, what is read of it, and what it refuses (24 to 42).
+#![tactic(auto)]
+
 ghost use Rattle.std.specs.Prelude.{◌≡◌, ◌&&◌, List, ℕ, ◌+◌, ◌-◌, ◌*◌, ◌≤◌, max, length};
 ghost use Rattle.definition.specs.Table.{◌=?◌, ◌≠?◌, ◌<?◌, first_of};
 ghost use Rattle.definition.specs.Records.{Identity, configuration, change_number, same_payload};
@@ -20,14 +22,14 @@ use codec::{
 use frontier::RaftProgress;
 use ids::{Checked, Lsn, RaftReplicaIdentity, Refusal, ReplicaId};
 
-#[derive(Drop)]
+#[derive(Clone, Copy)]
 pub enum MaybeLsn {
     None,
     Some(Lsn),
 }
 
 // A kept payload. A normal command's bytes stand in its cell of the store.
-#[derive(Drop)]
+#[derive(Clone, Copy)]
 pub enum EntryPayload {
     Normal {
         len: usize,
@@ -40,7 +42,7 @@ pub enum EntryPayload {
 }
 
 // A kept entry and the LSN of the record that last supplied it. Its index follows from its place.
-#[derive(Drop)]
+#[derive(Clone, Copy)]
 pub struct RecoveredRaftLogEntry {
     pub term: u64,
     pub lsn: Lsn,
@@ -48,7 +50,7 @@ pub struct RecoveredRaftLogEntry {
 }
 
 // What is kept for a replica beside its entries: `len` of these are held.
-#[derive(Drop)]
+#[derive(Clone, Copy)]
 pub struct Header {
     pub identity: RaftReplicaIdentity,
     pub len: usize,
@@ -63,21 +65,21 @@ pub struct Header {
     pub progress: RaftProgress,
 }
 
-#[derive(Drop)]
+#[derive(Clone, Copy)]
 pub enum MaybeIndex {
     None,
     Some(u64),
 }
 
 // Index and term of the boundary, if there is one.
-#[derive(Drop)]
+#[derive(Clone, Copy)]
 pub enum MaybeBoundary {
     None,
     Some { index: u64, term: u64 },
 }
 
 // Where an index is held: at an entry place, or nowhere.
-#[derive(Drop)]
+#[derive(Clone, Copy)]
 pub enum Place {
     None,
     Held(usize),
@@ -260,26 +262,26 @@ impl Header {
 pub const MAX_RETAINED_ENTRIES: usize = 64;
 
 // What is held at a record's index: nothing, or an entry's term and, in the same term, whether the payload is the same.
-#[derive(Drop)]
+#[derive(Clone, Copy)]
 pub enum Existing {
     None,
     Some { term: u64, same_payload: bool },
 }
 
-#[derive(Drop)]
+#[derive(Clone, Copy)]
 pub enum MaybeTerm {
     None,
     Some(u64),
 }
 
 // What a replacement took away, the replaced entry among it.
-#[derive(Drop)]
+#[derive(Clone, Copy)]
 pub struct Removed {
     pub removed_entries: usize,
 }
 
 // What an entry does to the log, or why it may not.
-#[derive(Drop)]
+#[derive(Clone, Copy)]
 pub enum RaftLogReplayOutcome {
     Appended,
     IdempotentReplay,
