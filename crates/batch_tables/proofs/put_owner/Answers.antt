@@ -1,0 +1,11 @@
+-- `batch_tables::put_owner` meets its contract.
+use mathlib.Core.Path.{refl}
+use native.Mathlib.Omega.{arith}
+use Rattle.tables.proofs.Wrote.{said, then}
+use borrow.Author.Rules.{rules}
+use Rattle.batch_tables.proofs.put_owner.Goals as goal
+
+pub returns : goal.returns
+returns c =
+    let p = c.requires in
+    said refl (omega arith) (then (omega (arith, p)) c.put_number-a.ensures c.put_identity.ensures)

@@ -1,0 +1,12 @@
+-- `batch_tables::put_record` meets its contract.
+use mathlib.Core.Path.{refl}
+use native.Mathlib.Omega.{arith}
+use Rattle.tables.proofs.Wrote.{said}
+use borrow.Author.Rules.{rules}
+use Rattle.batch_tables.proofs.put_record.Goals as goal
+
+pub returns-in_default : goal.returns-in_default
+returns-in_default c = rw c.in_default.is (said refl (omega arith) c.put_bytes.ensures)
+
+pub returns : goal.returns
+returns c = rw c.in-Raft.is c.put_raft.ensures

@@ -1,0 +1,14 @@
+-- `batch_text::add_hard_state` meets its contract.
+use borrow.Author.Tests.{not-false, not-true}
+use mathlib.Core.Path.{sym, ◌∙◌}
+use Rattle.batch_text.specs.Order.{add_hard_state}
+use borrow.Author.Rules.{rules}
+use Rattle.batch_text.proofs.add_hard_state.Goals as goal
+
+pub returns-then-not-is_open : goal.returns-then-not-is_open
+unfolding add_hard_state
+returns-then-not-is_open c = rw (sym c.is_open.ensures ∙ not-true c.is_open.result c.if-not-is_open.true) c.refused.ensures
+
+pub returns : goal.returns
+unfolding add_hard_state
+returns c = rw (sym c.is_open.ensures ∙ not-false c.is_open.result c.if-not-is_open.false)

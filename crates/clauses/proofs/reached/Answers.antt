@@ -1,0 +1,6 @@
+-- `reached` meets its contract.
+use borrow.Author.Rules.{rules}
+use Rattle.clauses.proofs.reached.Goals as goal
+
+pub returns : goal.returns
+returns c = simp c.in-Some.is

@@ -1,0 +1,7 @@
+-- `unfit` meets its contract.
+use mathlib.Core.Path.{◌∙◌}
+use borrow.Author.Rules.{rules}
+use Rattle.codec.proofs.unfit.Goals as goal
+
+pub returns-in-Normal : goal.returns-in-Normal
+returns-in-Normal c = c.command_unfit.ensures ∙ simp c.in-Normal.is

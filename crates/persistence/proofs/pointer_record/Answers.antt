@@ -1,0 +1,9 @@
+-- `pointer_record` meets its contract.
+use borrow.Author.Rules.{rules}
+use Rattle.persistence.proofs.pointer_record.Goals as goal
+
+pub returns-in_default : goal.returns-in_default
+returns-in_default c = simp c.in_default.is
+
+pub returns : goal.returns
+returns c = simp c.in-Some.is

@@ -1,0 +1,17 @@
+-- `put_entries` meets its contract. The invariant: the records of the first i entries are in place.
+use mathlib.Core.Path.{◌≡◌, refl, sym, ◌∙◌}
+use Prim.Native.Nat.{◌≤◌, ◌-◌}
+use native.Mathlib.Omega.{arith}
+use borrow.Author.Rules.{rules}
+use lib.ListN.{length, take}
+use Rattle.persistence.proofs.Recorded.{records_start, records_turn, records_end}
+use Rattle.store.specs.Splice.{splice}
+use Rattle.persistence.specs.Answer.{entry_records}
+use Rattle.persistence.proofs.put_entries.Given as goal
+
+abbrev pub invariant-loop-i : goal.invariant-loop-i
+invariant-loop-i l =
+    (l.i ≤ l.entries.count) × (l.entries.count ≤ 32) × (l.base ≤ 1) × (length l.initial.records ≡ 34) × (l.records ≡ splice l.initial.records l.base (take l.i (entry_records l.entries.count l.entries l.identity)))
+
+abbrev pub decreases-loop-i : goal.decreases-loop-i
+decreases-loop-i l = l.entries.count - l.i

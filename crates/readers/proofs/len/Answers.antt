@@ -1,0 +1,14 @@
+-- `len` meets its contract.
+use mathlib.Core.Path.{refl, ap}
+use borrow.Author.Tests.{not-true, not-false}
+use Rattle.definition.specs.Table.{ok}
+use Rattle.readers.proofs.Answers.{reads_sound, reads_unsound}
+use Rattle.readers.proofs.Readings.{held_is}
+use borrow.Author.Rules.{rules}
+use Rattle.readers.proofs.len.Goals as goal
+
+pub returns-then-not-passes : goal.returns-then-not-passes
+returns-then-not-passes c = reads_unsound c.passes.ensures (not-true _ c.if-not-passes.true) refl
+
+pub returns : goal.returns
+returns c = reads_sound c.passes.ensures (not-false _ c.if-not-passes.false) (ap ok (held_is _ _))

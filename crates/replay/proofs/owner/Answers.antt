@@ -1,0 +1,6 @@
+-- `owner` meets its contract.
+use borrow.Author.Rules.{rules}
+use Rattle.replay.proofs.owner.Goals as goal
+
+pub returns-in-SnapshotPointer : goal.returns-in-SnapshotPointer
+returns-in-SnapshotPointer c = simp c.in-SnapshotPointer.is

@@ -1,0 +1,31 @@
+-- `is_sound` meets its contract. The invariants: all is well where all was well so far and the rest is well, the rest of the
+-- replicas, and within a replica the rest of its entries and block too.
+use mathlib.Core.Path.{◌≡◌, refl, sym, ap, ◌∙◌}
+use mathlib.Core.Bool.{Bool, ◌&&◌, and-true}
+use mathlib.Core.List.{List}
+use mathlib.Core.Option.{Option}
+use Prim.Native.Nat.{ℕ, ◌+◌, ◌-◌, ◌*◌, ◌≤◌}
+use native.Mathlib.Omega.{arith}
+use borrow.Author.Rules.{rules}
+use borrow.Author.Tests.{eq-eqb, ne_eqb, lt-ltb, le-ltb, le-leb, lt-leb}
+use lib.ListN.{length}
+use Rattle.store.specs.Zeros.{all_zero}
+use Rattle.view.specs.Meaning.{lsn_of}
+use Rattle.storage.specs.declared.RecoveredRaftStorage.{RecoveredRaftStorage}
+use Rattle.soundness.specs.Sound.{replicas_ok, sound_clauses, sound_test}
+use Rattle.clauses.proofs.Laws.{tail_is}
+use Rattle.soundness.proofs.Step.{kept, replicas_left, replicas_begin, replicas_end, walked_short, block_left, head_turn, entry_turn, block_turn}
+use Rattle.soundness.proofs.is_sound.Given as goal
+
+abbrev pub invariant-loop-q : goal.invariant-loop-q
+invariant-loop-q l =
+    (l.p + 1 ≤ l.state.held) × (l.n ≤ 64) × (l.q ≤ l.n) × (sound_test l.state l.store ≡ (l.good && (within l.state l.store l.p l.n l.q && left l.state l.store (l.p + 1))))
+
+abbrev pub decreases-loop-q : goal.decreases-loop-q
+decreases-loop-q l = l.n - l.q
+
+abbrev pub invariant-loop-p : goal.invariant-loop-p
+invariant-loop-p l = (l.p ≤ l.state.held) × (sound_test l.state l.store ≡ (l.good && left l.state l.store l.p))
+
+abbrev pub decreases-loop-p : goal.decreases-loop-p
+decreases-loop-p l = l.state.held - l.p

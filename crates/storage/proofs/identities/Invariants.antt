@@ -1,0 +1,16 @@
+-- `identities` meets its contract. The invariant: the first p are in place.
+use mathlib.Core.Path.{◌≡◌, refl, sym, ◌∙◌}
+use Prim.Native.Nat.{◌≤◌, ◌-◌}
+use native.Mathlib.Omega.{arith}
+use borrow.Author.Rules.{rules}
+use lib.ListN.{length, length-map, length-set}
+use Rattle.storage.specs.Place.{owners_of, no_owner}
+use Rattle.storage.proofs.Walk.{Filled, filled_all, fill_turn}
+use Rattle.storage.proofs.Place.{owner_at}
+use Rattle.storage.proofs.identities.Given as goal
+
+abbrev pub invariant-loop-p : goal.invariant-loop-p
+invariant-loop-p l = (l.p ≤ 8) × (length l.heads ≡ 8) × (length l.own ≡ 8) × Filled (owners_of l.heads) l.own l.p
+
+abbrev pub decreases-loop-p : goal.decreases-loop-p
+decreases-loop-p l = 8 - l.p

@@ -1,0 +1,16 @@
+-- `store::clear` meets its contract. The invariant: j zeros are in dst, and the rest of it is as it was.
+use mathlib.Core.Path.{◌≡◌, refl, sym}
+use Prim.Native.Nat.{◌≤◌, ◌-◌}
+use native.Mathlib.Omega.{arith}
+use lib.ListN.{length, length-set}
+use Rattle.store.specs.Splice.{splice}
+use Rattle.store.specs.Zeros.{zeros}
+use Rattle.store.proofs.Part.{splice_none}
+use Rattle.store.proofs.Run.{turn_fill}
+use Rattle.store.proofs.clear.Given as goal
+
+abbrev pub invariant-loop-j : goal.invariant-loop-j
+invariant-loop-j l = (l.j ≤ l.n) × (l.dst ≡ splice l.initial.dst l.at (zeros l.j)) × (length l.dst ≡ length l.initial.dst)
+
+abbrev pub decreases-loop-j : goal.decreases-loop-j
+decreases-loop-j l = l.n - l.j

@@ -1,0 +1,46 @@
+-- `store::move_up` meets its contract. The invariant: the bytes from j on are moved. What a turn reads lies before what was written, so it is as it was.
+use mathlib.Core.Path.{◌≡◌, refl, sym}
+use Prim.Native.Nat.{◌≤◌, ◌+◌, ◌-◌}
+use native.Mathlib.Omega.{arith}
+use native.Mathlib.Nat.{sub_self, add-zero, sub-zero}
+use lib.ListN.{length, length-set}
+use Rattle.store.specs.Splice.{splice, part}
+use Rattle.store.proofs.Part.{splice_none}
+use Rattle.store.proofs.Run.{turn_up}
+use Rattle.store.proofs.move_up.Goals as goal
+
+pub loop-j-init : goal.loop-j-init
+loop-j-init c = (omega arith, rw sub_self (sym (splice_none c.args.dst.now (c.args.at + c.args.n))), refl)
+
+pub overflow_sub-j : goal.overflow_sub-j
+overflow_sub-j c = omega arith
+
+pub overflow_add-dst : goal.overflow_add-dst
+overflow_add-dst c = omega arith
+
+pub bounds-dst-from : goal.bounds-dst-from
+bounds-dst-from c = omega arith
+
+pub overflow_add-dst-in-loop-j : goal.overflow_add-dst-in-loop-j
+overflow_add-dst-in-loop-j c = omega arith
+
+pub bounds-dst-at : goal.bounds-dst-at
+bounds-dst-at c = omega arith
+
+pub loop-j-smaller : goal.loop-j-smaller
+loop-j-smaller c = omega arith
+
+pub loop-j-preserved : goal.loop-j-preserved
+loop-j-preserved c =
+    let l = c.loop-j in
+    let s = c.args in (
+      omega arith,
+      rw l.invariant.1 (turn_up s.dst.now s.at s.from s.n l.j 0 (omega arith) (omega arith) (omega arith) (omega arith)),
+      simp length-set (omega arith),
+    )
+
+pub shape_of-dst : goal.shape_of-dst
+shape_of-dst c = omega arith
+
+pub returns : goal.returns
+returns c = let e : c.loop-j.j ≡ 0 = omega arith in simp (e, add-zero, sub-zero) at c.loop-j.invariant.1

@@ -1,0 +1,16 @@
+-- `store::move_up` meets its contract. The invariant: the bytes from j on are moved. What a turn reads lies before what was written, so it is as it was.
+use mathlib.Core.Path.{◌≡◌, refl, sym}
+use Prim.Native.Nat.{◌≤◌, ◌+◌, ◌-◌}
+use native.Mathlib.Omega.{arith}
+use native.Mathlib.Nat.{sub_self, add-zero, sub-zero}
+use lib.ListN.{length, length-set}
+use Rattle.store.specs.Splice.{splice, part}
+use Rattle.store.proofs.Part.{splice_none}
+use Rattle.store.proofs.Run.{turn_up}
+use Rattle.store.proofs.move_up.Given as goal
+
+abbrev pub invariant-loop-j : goal.invariant-loop-j
+invariant-loop-j l = (l.j ≤ l.n) × (l.dst ≡ splice l.initial.dst (l.at + l.j) (part (l.from + l.j) (l.n - l.j) l.initial.dst)) × (length l.dst ≡ length l.initial.dst)
+
+abbrev pub decreases-loop-j : goal.decreases-loop-j
+decreases-loop-j l = l.j

@@ -1,0 +1,28 @@
+-- `tables::write_tables` meets its contract. The invariant: the entries of the first p replicas are written.
+use mathlib.Core.Path.{◌≡◌, refl, ◌∙◌}
+use Prim.Native.Nat.{◌≤◌, ◌-◌, ◌*◌}
+use native.Mathlib.Omega.{arith}
+use lib.ListN.{length}
+use Rattle.tables.specs.Model.{lines_to, log_lines, tables_of, Wrote}
+use Rattle.tables.proofs.Wrote.{begin, more, then, said, printed}
+use borrow.Author.Rules.{rules}
+use Rattle.tables.proofs.write_tables.Goals as goal
+
+pub loop-p-init : goal.loop-p-init
+loop-p-init c = (omega arith, begin _ _ _, refl)
+
+pub loop-p-preserved : goal.loop-p-preserved
+loop-p-preserved c =
+    let l = c.loop-p in (
+      omega arith,
+      more l.p _ (omega (arith, c.put_heads-at.ensures.next, c.put_heads-at.ensures.short, c.at_most-held.ensures)) (omega arith) l.invariant.1 c.put_log-at.ensures,
+      c.put_log-at.auto.0 ∙ l.invariant.2,
+    )
+
+pub returns : goal.returns
+unfolding tables_of
+returns c =
+    let l = c.loop-p in
+    let a = c.at_most-held in
+    let e : l.p ≡ a.result = omega arith in
+    rw (← a.ensures, ← e) (printed {n = 65536} (omega arith) (said refl (omega (arith, a.ensures)) (then {m = 1240} (omega arith) (rw (← e) at c.put_heads-at.ensures) l.invariant.1)))

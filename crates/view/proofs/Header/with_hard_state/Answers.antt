@@ -1,0 +1,6 @@
+-- `Header::with_hard_state` meets its contract.
+use borrow.Author.Rules.{rules}
+use Rattle.view.proofs.Header.with_hard_state.Goals as goal
+
+pub returns : goal.returns
+returns c = simp (c.with_hard_at.ensures, c.with_commit-advanced.ensures)

@@ -1,0 +1,6 @@
+-- `Header::with_pointer` meets its contract.
+use borrow.Author.Rules.{rules}
+use Rattle.view.proofs.Header.with_pointer.Goals as goal
+
+pub returns : goal.returns
+returns c = simp (c.larger.ensures, c.raised.ensures)
