@@ -10,6 +10,7 @@ use Rattle.store.specs.Zeros.{all_zero}
 use Rattle.store.proofs.Zeros.{zero_walk, zero_end}
 use Rattle.store.proofs.Flag.{flag_set, flag_kept}
 use Rattle.store.proofs.is_zero.Goals as goal
+use Rattle.store.proofs.is_zero.Goals.{then-s-i-ne0, else-s-i-ne0}
 
 pub loop-i-init : goal.loop-i-init
 loop-i-init c = (omega arith, refl)
@@ -28,10 +29,10 @@ loop-i-preserved c =
     let l = c.loop-i in
     let walk = zero_walk c.args.s.now l.i c.loop-i-test.true in (
       omega arith,
-      l.invariant.1 ∙ ⊎_elim
-          (λ w. rw w.1 (flag_set l.bad _ _ walk (ne_eqb _ _ w.0.taken)))
-          (λ w. rw w.1 (flag_kept l.bad _ _ walk (eq-eqb _ _ w.0.left)))
-          c.if-s-i-ne0.branch,
+      l.invariant.1 ∙ elim c.if-s-i-ne0.branch [
+        then-s-i-ne0 w ↦ rw w.bad-is (flag_set l.bad _ _ walk (ne_eqb _ _ w.if-s-i-ne0.true))
+        | else-s-i-ne0 w ↦ rw w.bad-is (flag_kept l.bad _ _ walk (eq-eqb _ _ w.if-s-i-ne0.false))
+      ],
     )
 
 pub returns : goal.returns

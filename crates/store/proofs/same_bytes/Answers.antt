@@ -10,6 +10,7 @@ use Rattle.definition.specs.Table.{same_bytes}
 use Rattle.store.proofs.Same.{other_length, same_walk, same_end}
 use Rattle.store.proofs.Flag.{flag_set, flag_kept}
 use Rattle.store.proofs.same_bytes.Goals as goal
+use Rattle.store.proofs.same_bytes.Goals.{then-a-i, else-a-i}
 
 pub returns-then-a-b : goal.returns-then-a-b
 returns-then-a-b c = sym (other_length c.args.a.now c.args.b.now c.if-a-b.true)
@@ -35,10 +36,10 @@ loop-i-preserved c =
     let s = c.args in
     let walk = same_walk s.a.now s.b.now l.i c.loop-i-test.true (omega arith) in (
       omega arith,
-      l.invariant.1 ∙ ⊎_elim
-          (λ w. rw w.1 (flag_set l.bad _ _ walk (ne_eqb _ _ w.0.taken)))
-          (λ w. rw w.1 (flag_kept l.bad _ _ walk (eq-eqb _ _ w.0.left)))
-          c.if-a-i.branch,
+      l.invariant.1 ∙ elim c.if-a-i.branch [
+        then-a-i w ↦ rw w.bad-is (flag_set l.bad _ _ walk (ne_eqb _ _ w.if-a-i.true))
+        | else-a-i w ↦ rw w.bad-is (flag_kept l.bad _ _ walk (eq-eqb _ _ w.if-a-i.false))
+      ],
     )
 
 pub returns : goal.returns
