@@ -7,12 +7,12 @@ use Rattle.batch_text.proofs.add_entry.Goals as goal
 
 pub returns-then-not-is_open : goal.returns-then-not-is_open
 unfolding add_entry
-returns-then-not-is_open c = rw (sym c.is_open.ensures ∙ not-true c.is_open.result c.if-not-is_open.true) c.refused.ensures
+returns-then-not-is_open c = rw (sym c.is_open.ensures ∙ c.if-not-is_open.true) c.refused.ensures
 
 pub returns-then-entries-ge-MAX_ENTRY_LINES : goal.returns-then-entries-ge-MAX_ENTRY_LINES
 unfolding add_entry
-returns-then-entries-ge-MAX_ENTRY_LINES c = rw (sym c.is_open.ensures ∙ not-false c.is_open.result c.if-not-is_open.false, le-ltb _ _ c.if-entries-ge-MAX_ENTRY_LINES.true) c.refused-then-entries-ge-MAX_ENTRY_LINES.ensures
+returns-then-entries-ge-MAX_ENTRY_LINES c = rw (sym c.is_open.ensures ∙ c.if-not-is_open.false, le-ltb _ _ c.if-entries-ge-MAX_ENTRY_LINES.true) c.refused-then-entries-ge-MAX_ENTRY_LINES.ensures
 
 pub returns : goal.returns
 unfolding add_entry
-returns c = rw (sym c.is_open.ensures ∙ not-false c.is_open.result c.if-not-is_open.false, lt-ltb _ _ c.if-entries-ge-MAX_ENTRY_LINES.false, c.with_entry-more.ensures)
+returns c = rw (sym c.is_open.ensures ∙ c.if-not-is_open.false, lt-ltb _ _ c.if-entries-ge-MAX_ENTRY_LINES.false, c.with_entry-more.ensures)

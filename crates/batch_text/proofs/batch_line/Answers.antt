@@ -23,12 +23,12 @@ returns-in-Some c = rw (sym c.is_pointer.ensures ∙ c.if-is_pointer.false, sym 
 
 pub returns-then-not-is_entry : goal.returns-then-not-is_entry
 unfolding line_on
-returns-then-not-is_entry c = rw (sym c.is_pointer.ensures ∙ c.if-is_pointer.false, sym c.is_hard_state.ensures ∙ c.if-is_hard_state.false, sym c.show_of.ensures ∙ c.in_default.is, sym c.is_entry.ensures ∙ not-true c.is_entry.result c.if-not-is_entry.true)
+returns-then-not-is_entry c = rw (sym c.is_pointer.ensures ∙ c.if-is_pointer.false, sym c.is_hard_state.ensures ∙ c.if-is_hard_state.false, sym c.show_of.ensures ∙ c.in_default.is, sym c.is_entry.ensures ∙ c.if-not-is_entry.true)
 
 pub returns-in_default-payload_of : goal.returns-in_default-payload_of
 unfolding line_on
-returns-in_default-payload_of c = rw (sym c.is_pointer.ensures ∙ c.if-is_pointer.false, sym c.is_hard_state.ensures ∙ c.if-is_hard_state.false, sym c.show_of.ensures ∙ c.in_default.is, sym c.is_entry.ensures ∙ not-false c.is_entry.result c.if-not-is_entry.false, sym c.payload_of.ensures ∙ c.in_default-payload_of.is)
+returns-in_default-payload_of c = rw (sym c.is_pointer.ensures ∙ c.if-is_pointer.false, sym c.is_hard_state.ensures ∙ c.if-is_hard_state.false, sym c.show_of.ensures ∙ c.in_default.is, sym c.is_entry.ensures ∙ c.if-not-is_entry.false, sym c.payload_of.ensures ∙ c.in_default-payload_of.is)
 
 pub returns : goal.returns
 unfolding line_on
-returns c = rw (sym c.is_pointer.ensures ∙ c.if-is_pointer.false, sym c.is_hard_state.ensures ∙ c.if-is_hard_state.false, sym c.show_of.ensures ∙ c.in_default.is, sym c.is_entry.ensures ∙ not-false c.is_entry.result c.if-not-is_entry.false, sym c.payload_of.ensures ∙ c.in-Some-payload_of.is) (ap (λ (e : BatchEntry). L.Entry e) c.entry_of.ensures)
+returns c = rw (sym c.is_pointer.ensures ∙ c.if-is_pointer.false, sym c.is_hard_state.ensures ∙ c.if-is_hard_state.false, sym c.show_of.ensures ∙ c.in_default.is, sym c.is_entry.ensures ∙ c.if-not-is_entry.false, sym c.payload_of.ensures ∙ c.in-Some-payload_of.is) (ap (λ (e : BatchEntry). L.Entry e) c.entry_of.ensures)

@@ -11,12 +11,12 @@ returns-then-line-ne3 c = rw (ne_eqb _ _ c.if-line-ne3.true)
 
 pub returns-then-not-is_letter : goal.returns-then-not-is_letter
 unfolding hard_state_line
-returns-then-not-is_letter c = rw (eq-eqb _ _ c.if-line-ne3.false, sym c.is_letter.ensures ∙ not-true c.is_letter.result c.if-not-is_letter.true)
+returns-then-not-is_letter c = rw (eq-eqb _ _ c.if-line-ne3.false, sym c.is_letter.ensures ∙ c.if-not-is_letter.true)
 
 pub returns-then-not-are_numbers : goal.returns-then-not-are_numbers
 unfolding hard_state_line
-returns-then-not-are_numbers c = rw (eq-eqb _ _ c.if-line-ne3.false, sym c.is_letter.ensures ∙ not-false c.is_letter.result c.if-not-is_letter.false, sym c.are_numbers.ensures ∙ not-true c.are_numbers.result c.if-not-are_numbers.true)
+returns-then-not-are_numbers c = rw (eq-eqb _ _ c.if-line-ne3.false, sym c.is_letter.ensures ∙ c.if-not-is_letter.false, sym c.are_numbers.ensures ∙ c.if-not-are_numbers.true)
 
 pub returns : goal.returns
 unfolding hard_state_line
-returns c = rw (eq-eqb _ _ c.if-line-ne3.false, sym c.is_letter.ensures ∙ not-false c.is_letter.result c.if-not-is_letter.false, sym c.are_numbers.ensures ∙ not-false c.are_numbers.result c.if-not-are_numbers.false) c.is_vote.ensures
+returns c = rw (eq-eqb _ _ c.if-line-ne3.false, sym c.is_letter.ensures ∙ c.if-not-is_letter.false, sym c.are_numbers.ensures ∙ c.if-not-are_numbers.false) c.is_vote.ensures

@@ -5,13 +5,13 @@ use borrow.Author.Rules.{rules}
 use Rattle.batch_text.proofs.is_snapshot.Goals as goal
 
 pub returns-then-not-are_numbers : goal.returns-then-not-are_numbers
-returns-then-not-are_numbers c = rw (sym c.are_numbers.ensures ∙ not-true c.are_numbers.result c.if-not-are_numbers.true)
+returns-then-not-are_numbers c = rw (sym c.are_numbers.ensures ∙ c.if-not-are_numbers.true)
 
 pub returns-then-not-are_numbers-2 : goal.returns-then-not-are_numbers-2
-returns-then-not-are_numbers-2 c = rw (sym c.are_numbers.ensures ∙ not-false c.are_numbers.result c.if-not-are_numbers.false, sym c.are_numbers-2.ensures ∙ not-true c.are_numbers-2.result c.if-not-are_numbers-2.true)
+returns-then-not-are_numbers-2 c = rw (sym c.are_numbers.ensures ∙ c.if-not-are_numbers.false, sym c.are_numbers-2.ensures ∙ c.if-not-are_numbers-2.true)
 
 pub returns-then-not-are_numbers-3 : goal.returns-then-not-are_numbers-3
-returns-then-not-are_numbers-3 c = rw (sym c.are_numbers.ensures ∙ not-false c.are_numbers.result c.if-not-are_numbers.false, sym c.are_numbers-2.ensures ∙ not-false c.are_numbers-2.result c.if-not-are_numbers-2.false, sym c.are_numbers-3.ensures ∙ not-true c.are_numbers-3.result c.if-not-are_numbers-3.true)
+returns-then-not-are_numbers-3 c = rw (sym c.are_numbers.ensures ∙ c.if-not-are_numbers.false, sym c.are_numbers-2.ensures ∙ c.if-not-are_numbers-2.false, sym c.are_numbers-3.ensures ∙ c.if-not-are_numbers-3.true)
 
 pub returns : goal.returns
-returns c = rw (sym c.are_numbers.ensures ∙ not-false c.are_numbers.result c.if-not-are_numbers.false, sym c.are_numbers-2.ensures ∙ not-false c.are_numbers-2.result c.if-not-are_numbers-2.false, sym c.are_numbers-3.ensures ∙ not-false c.are_numbers-3.result c.if-not-are_numbers-3.false) c.is_sum.ensures
+returns c = rw (sym c.are_numbers.ensures ∙ c.if-not-are_numbers.false, sym c.are_numbers-2.ensures ∙ c.if-not-are_numbers-2.false, sym c.are_numbers-3.ensures ∙ c.if-not-are_numbers-3.false) c.is_sum.ensures

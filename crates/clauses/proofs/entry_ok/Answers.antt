@@ -14,8 +14,8 @@ returns-then-n-gt64 c = rw (← c.size-n.ensures, lt-leb _ _ c.if-n-gt64.true)
 
 pub returns-then-not-reached : goal.returns-then-not-reached
 unfolding entry_clauses
-returns-then-not-reached c = rw (← c.size-n.ensures, le-leb _ _ c.if-n-gt64.false, sym c.reached.ensures ∙ not-true _ c.if-not-reached.true)
+returns-then-not-reached c = rw (← c.size-n.ensures, le-leb _ _ c.if-n-gt64.false, sym c.reached.ensures ∙ c.if-not-reached.true)
 
 pub returns : goal.returns
 unfolding entry_clauses
-returns c = rw (← c.size-n.ensures, le-leb _ _ c.if-n-gt64.false, sym c.reached.ensures ∙ not-false _ c.if-not-reached.false, c.is_zero.ensures, and-true) (ap all_zero (tail_is c.args.cell.now c.size-n.result 64 c.requires))
+returns c = rw (← c.size-n.ensures, le-leb _ _ c.if-n-gt64.false, sym c.reached.ensures ∙ c.if-not-reached.false, c.is_zero.ensures, and-true) (ap all_zero (tail_is c.args.cell.now c.size-n.result 64 c.requires))

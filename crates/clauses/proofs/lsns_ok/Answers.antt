@@ -6,10 +6,10 @@ use borrow.Author.Rules.{rules}
 use Rattle.clauses.proofs.lsns_ok.Goals as goal
 
 pub returns-then-not-lsn_ok : goal.returns-then-not-lsn_ok
-returns-then-not-lsn_ok c = rw (sym c.lsn_ok.ensures ∙ not-true _ c.if-not-lsn_ok.true)
+returns-then-not-lsn_ok c = rw (sym c.lsn_ok.ensures ∙ c.if-not-lsn_ok.true)
 
 pub returns-then-not-lsn_ok-2 : goal.returns-then-not-lsn_ok-2
-returns-then-not-lsn_ok-2 c = rw (sym c.lsn_ok.ensures ∙ not-false _ c.if-not-lsn_ok.false, sym c.lsn_ok-2.ensures ∙ not-true _ c.if-not-lsn_ok-2.true)
+returns-then-not-lsn_ok-2 c = rw (sym c.lsn_ok.ensures ∙ c.if-not-lsn_ok.false, sym c.lsn_ok-2.ensures ∙ c.if-not-lsn_ok-2.true)
 
 pub returns : goal.returns
-returns c = rw (sym c.lsn_ok.ensures ∙ not-false _ c.if-not-lsn_ok.false, sym c.lsn_ok-2.ensures ∙ not-false _ c.if-not-lsn_ok-2.false, c.lsn_ok-3.ensures, and-true)
+returns c = rw (sym c.lsn_ok.ensures ∙ c.if-not-lsn_ok.false, sym c.lsn_ok-2.ensures ∙ c.if-not-lsn_ok-2.false, c.lsn_ok-3.ensures, and-true)

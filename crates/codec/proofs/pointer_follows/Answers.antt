@@ -15,8 +15,8 @@ returns-then-next-old-2 c = search (ne_eqb, le-ltb)
 
 pub returns-then-not-same_pointer : goal.returns-then-not-same_pointer
 unfolding snapshot_successor_rows validate_snapshot_successor
-returns-then-not-same_pointer c = rw (sym c.same_pointer.ensures ∙ not-true _ c.if-not-same_pointer.true, le-ltb _ _ c.if-next-old.false, eq-eqb _ _ c.if-next-old-2.false)
+returns-then-not-same_pointer c = rw (sym c.same_pointer.ensures ∙ c.if-not-same_pointer.true, le-ltb _ _ c.if-next-old.false, eq-eqb _ _ c.if-next-old-2.false)
 
 pub returns : goal.returns
 unfolding snapshot_successor_rows validate_snapshot_successor
-returns c = rw (sym c.same_pointer.ensures ∙ not-false _ c.if-not-same_pointer.false, le-ltb _ _ c.if-next-old.false, eq-eqb _ _ c.if-next-old-2.false)
+returns c = rw (sym c.same_pointer.ensures ∙ c.if-not-same_pointer.false, le-ltb _ _ c.if-next-old.false, eq-eqb _ _ c.if-next-old-2.false)

@@ -10,7 +10,7 @@ use Rattle.finishing.proofs.finish.Goals as goal
 pub returns-then-not-is_sound : goal.returns-then-not-is_sound
 returns-then-not-is_sound c =
     let a = c.args in
-    finishes_unsound a.state a.store.now _ (sym c.is_sound.ensures ∙ not-true _ c.if-not-is_sound.true) refl
+    finishes_unsound a.state a.store.now _ (sym c.is_sound.ensures ∙ c.if-not-is_sound.true) refl
 
 pub finish_all-next-requires : goal.finish_all-next-requires
 finish_all-next-requires c =
@@ -18,7 +18,7 @@ finish_all-next-requires c =
     let g = c.well_formed in
     let eight : length a.state.heads ≡ 8 = sym (length-map a.state.heads (Rattle.view.specs.contracts.Header.the_type).to) ∙ g.0.1.1.0.1.0.1 in
     let all : length a.state.entries ≡ 512 = sym (length-map a.state.entries (Rattle.view.specs.contracts.RecoveredRaftLogEntry.the_type).to) ∙ g.0.1.1.1.0.1.0.1 in
-    (test_sound a.state a.store.now eight all (sym c.is_sound.ensures ∙ not-false _ c.if-not-is_sound.false)).limits
+    (test_sound a.state a.store.now eight all (sym c.is_sound.ensures ∙ c.if-not-is_sound.false)).limits
 
 pub returns : goal.returns
 returns c =
@@ -26,4 +26,4 @@ returns c =
     let g = c.well_formed in
     let eight : length a.state.heads ≡ 8 = sym (length-map a.state.heads (Rattle.view.specs.contracts.Header.the_type).to) ∙ g.0.1.1.0.1.0.1 in
     let all : length a.state.entries ≡ 512 = sym (length-map a.state.entries (Rattle.view.specs.contracts.RecoveredRaftLogEntry.the_type).to) ∙ g.0.1.1.1.0.1.0.1 in
-    finishes_sound a.state a.store.now _ eight all (sym c.is_sound.ensures ∙ not-false _ c.if-not-is_sound.false) (simp c.finish_all-next.ensures)
+    finishes_sound a.state a.store.now _ eight all (sym c.is_sound.ensures ∙ c.if-not-is_sound.false) (simp c.finish_all-next.ensures)

@@ -10,20 +10,20 @@ use Rattle.persistence.proofs.prepare_batch.Goals as goal
 pub returns-then-not-passes : goal.returns-then-not-passes
 returns-then-not-passes c =
     let a = c.args in
-    answers_unsound a.batch a.lent.now c.passes.ensures (not-true _ c.if-not-passes.true) c.refused.ensures
+    answers_unsound a.batch a.lent.now c.passes.ensures c.if-not-passes.true c.refused.ensures
 
 pub own_of-own-requires : goal.own_of-own-requires
 own_of-own-requires c =
-    few_held c.passes.ensures (not-false _ c.if-not-passes.false)
+    few_held c.passes.ensures c.if-not-passes.false
 
 pub try_batch-tried-requires : goal.try_batch-tried-requires
 try_batch-tried-requires c =
-    kept (owns c.passes.ensures (not-false _ c.if-not-passes.false) c.own_of-own.ensures)
+    kept (owns c.passes.ensures c.if-not-passes.false c.own_of-own.ensures)
 
 pub returns-in-Refused : goal.returns-in-Refused
 returns-in-Refused c =
     let a = c.args in
-    let w = owns c.passes.ensures (not-false _ c.if-not-passes.false) c.own_of-own.ensures in
+    let w = owns c.passes.ensures c.if-not-passes.false c.own_of-own.ensures in
     let small = small_indices a.batch.entries.index c.well_formed.1.1.1.0.1.1.1.0.1.1.1.0.0 c.well_formed.1.1.1.0.1.1.1.0.1.1.1.0.1.1 in
     answers_refused a.batch a.lent.now w small _ (told_refused _ _ _ c.try_batch-tried.ensures c.in-Refused.is) c.refused-in-Refused.ensures
 
@@ -35,7 +35,7 @@ records_of-requires c =
 pub returns : goal.returns
 returns c =
     let a = c.args in
-    let w = owns c.passes.ensures (not-false _ c.if-not-passes.false) c.own_of-own.ensures in
+    let w = owns c.passes.ensures c.if-not-passes.false c.own_of-own.ensures in
     let q = told_refused _ _ _ c.try_batch-tried.ensures c.in_default.is in
     let small = small_indices a.batch.entries.index c.well_formed.1.1.1.0.1.1.1.0.1.1.1.0.0 c.well_formed.1.1.1.0.1.1.1.0.1.1.1.0.1.1 in
     answers_ready a.batch a.lent.now w small q (tried_few a.state a.store.now a.identity a.batch a.lent.now _ q) c.records_of.ensures

@@ -12,26 +12,26 @@ use borrow.Author.Rules.{rules}
 use Rattle.readers.proofs.entry.Goals as goal
 
 pub returns-then-not-passes : goal.returns-then-not-passes
-returns-then-not-passes c = reads_unsound c.passes.ensures (not-true _ c.if-not-passes.true) refl
+returns-then-not-passes c = reads_unsound c.passes.ensures c.if-not-passes.true refl
 
 pub own_of-own-requires : goal.own_of-own-requires
-own_of-own-requires c = few_held c.passes.ensures (not-false _ c.if-not-passes.false)
+own_of-own-requires c = few_held c.passes.ensures c.if-not-passes.false
 
 pub returns-in_default : goal.returns-in_default
 returns-in_default c =
     
-    let w = owns c.passes.ensures (not-false _ c.if-not-passes.false) c.own_of-own.ensures in
+    let w = owns c.passes.ensures c.if-not-passes.false c.own_of-own.ensures in
     reads_own w (λ (l : Log ℕ). at l c.args.index) (ap ok (index_none w _ (sym c.place_of.ensures ∙ c.in_default.is)))
 
 pub kept_at-e-requires : goal.kept_at-e-requires
 kept_at-e-requires c =
     
-    let w = owns c.passes.ensures (not-false _ c.if-not-passes.false) c.own_of-own.ensures in
+    let w = owns c.passes.ensures c.if-not-passes.false c.own_of-own.ensures in
     let k = index_below w _ (sym c.place_of.ensures ∙ c.in-Held.is) in
     (w.low, omega (arith, k, w.short))
 
 pub returns : goal.returns
 returns c =
     
-    let w = owns c.passes.ensures (not-false _ c.if-not-passes.false) c.own_of-own.ensures in
+    let w = owns c.passes.ensures c.if-not-passes.false c.own_of-own.ensures in
     reads_own w (λ (l : Log ℕ). at l c.args.index) (index_entry w _ (sym c.place_of.ensures ∙ c.in-Held.is) c.kept_at-e.ensures)

@@ -13,25 +13,25 @@ use borrow.Author.Rules.{rules}
 use Rattle.readers.proofs.entry_at.Goals as goal
 
 pub returns-then-not-passes : goal.returns-then-not-passes
-returns-then-not-passes c = reads_unsound c.passes.ensures (not-true _ c.if-not-passes.true) refl
+returns-then-not-passes c = reads_unsound c.passes.ensures c.if-not-passes.true refl
 
 pub own_of-own-requires : goal.own_of-own-requires
-own_of-own-requires c = few_held c.passes.ensures (not-false _ c.if-not-passes.false)
+own_of-own-requires c = few_held c.passes.ensures c.if-not-passes.false
 
 pub returns-then-head-place : goal.returns-then-head-place
 returns-then-head-place c =
     
-    let w = owns c.passes.ensures (not-false _ c.if-not-passes.false) c.own_of-own.ensures in
+    let w = owns c.passes.ensures c.if-not-passes.false c.own_of-own.ensures in
     reads_own w (λ (l : Log ℕ). get_elem? l.entries c.args.place) (ap ok (at_past w _ c.if-head-place.true))
 
 pub kept_at-e-requires : goal.kept_at-e-requires
 kept_at-e-requires c =
     
-    let w = owns c.passes.ensures (not-false _ c.if-not-passes.false) c.own_of-own.ensures in
+    let w = owns c.passes.ensures c.if-not-passes.false c.own_of-own.ensures in
     (w.low, omega (arith, c.if-head-place.false, w.short))
 
 pub returns : goal.returns
 returns c =
     
-    let w = owns c.passes.ensures (not-false _ c.if-not-passes.false) c.own_of-own.ensures in
+    let w = owns c.passes.ensures c.if-not-passes.false c.own_of-own.ensures in
     reads_own w (λ (l : Log ℕ). get_elem? l.entries c.args.place) (at_held w _ c.kept_at-e.ensures c.if-head-place.false)

@@ -11,16 +11,16 @@ use borrow.Author.Rules.{rules}
 use Rattle.readers.proofs.first_retained_lsn.Goals as goal
 
 pub returns-then-not-passes : goal.returns-then-not-passes
-returns-then-not-passes c = reads_unsound c.passes.ensures (not-true _ c.if-not-passes.true) refl
+returns-then-not-passes c = reads_unsound c.passes.ensures c.if-not-passes.true refl
 
 pub own_of-own-requires : goal.own_of-own-requires
-own_of-own-requires c = few_held c.passes.ensures (not-false _ c.if-not-passes.false)
+own_of-own-requires c = few_held c.passes.ensures c.if-not-passes.false
 
 pub kept_at-first-requires : goal.kept_at-first-requires
-kept_at-first-requires c = ((owns c.passes.ensures (not-false _ c.if-not-passes.false) c.own_of-own.ensures).low, omega arith)
+kept_at-first-requires c = ((owns c.passes.ensures c.if-not-passes.false c.own_of-own.ensures).low, omega arith)
 
 pub returns : goal.returns
 returns c =
     
-    let w = owns c.passes.ensures (not-false _ c.if-not-passes.false) c.own_of-own.ensures in
+    let w = owns c.passes.ensures c.if-not-passes.false c.own_of-own.ensures in
     reads_own w first_retained_lsn (ap ok (retained_is _ _ _ c.kept_at-first.ensures c.first_retained_lsn.ensures))

@@ -7,8 +7,8 @@ use borrow.Author.Rules.{rules}
 use Rattle.readers.proofs.last_scanned_lsn.Goals as goal
 
 pub returns-then-not-passes : goal.returns-then-not-passes
-returns-then-not-passes c = reads_unsound c.passes.ensures (not-true _ c.if-not-passes.true) refl
+returns-then-not-passes c = reads_unsound c.passes.ensures c.if-not-passes.true refl
 
 pub returns : goal.returns
 unfolding meaning
-returns c = reads_sound c.passes.ensures (not-false _ c.if-not-passes.false) refl
+returns c = reads_sound c.passes.ensures c.if-not-passes.false refl

@@ -8,7 +8,7 @@ use borrow.Author.Rules.{rules}
 use Rattle.readers.proofs.len.Goals as goal
 
 pub returns-then-not-passes : goal.returns-then-not-passes
-returns-then-not-passes c = reads_unsound c.passes.ensures (not-true _ c.if-not-passes.true) refl
+returns-then-not-passes c = reads_unsound c.passes.ensures c.if-not-passes.true refl
 
 pub returns : goal.returns
-returns c = reads_sound c.passes.ensures (not-false _ c.if-not-passes.false) (ap ok (held_is _ _))
+returns c = reads_sound c.passes.ensures c.if-not-passes.false (ap ok (held_is _ _))

@@ -11,13 +11,13 @@ use borrow.Author.Rules.{rules}
 use Rattle.readers.proofs.log_is_empty.Goals as goal
 
 pub returns-then-not-passes : goal.returns-then-not-passes
-returns-then-not-passes c = reads_unsound c.passes.ensures (not-true _ c.if-not-passes.true) refl
+returns-then-not-passes c = reads_unsound c.passes.ensures c.if-not-passes.true refl
 
 pub own_of-own-requires : goal.own_of-own-requires
-own_of-own-requires c = few_held c.passes.ensures (not-false _ c.if-not-passes.false)
+own_of-own-requires c = few_held c.passes.ensures c.if-not-passes.false
 
 pub returns : goal.returns
 returns c =
     
-    let w = owns c.passes.ensures (not-false _ c.if-not-passes.false) c.own_of-own.ensures in
+    let w = owns c.passes.ensures c.if-not-passes.false c.own_of-own.ensures in
     reads_own w is_empty (ap (λ (n : ℕ). ok (n =? 0)) (count_is _ _ _) ∙ ap ok (sym c.is_empty.ensures))

@@ -7,10 +7,10 @@ use borrow.Author.Rules.{rules}
 use Rattle.readers.proofs.replica.Goals as goal
 
 pub returns-then-not-passes : goal.returns-then-not-passes
-returns-then-not-passes c = replica_refused c.passes.ensures (not-true _ c.if-not-passes.true)
+returns-then-not-passes c = replica_refused c.passes.ensures c.if-not-passes.true
 
 pub own_of-own-requires : goal.own_of-own-requires
-own_of-own-requires c = few_held c.passes.ensures (not-false _ c.if-not-passes.false)
+own_of-own-requires c = few_held c.passes.ensures c.if-not-passes.false
 
 pub returns : goal.returns
-returns c = replica_read (owns c.passes.ensures (not-false _ c.if-not-passes.false) c.own_of-own.ensures)
+returns c = replica_read (owns c.passes.ensures c.if-not-passes.false c.own_of-own.ensures)

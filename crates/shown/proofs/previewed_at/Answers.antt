@@ -11,26 +11,26 @@ use Rattle.shown.proofs.previewed_at.Goals as goal
 pub returns-then-not-passes : goal.returns-then-not-passes
 returns-then-not-passes c =
     let a = c.args in
-    shows_unsound a.state a.store.now a.identity a.batch a.lent.now a.index _ c.passes.ensures (not-true _ c.if-not-passes.true)
+    shows_unsound a.state a.store.now a.identity a.batch a.lent.now a.index _ c.passes.ensures c.if-not-passes.true
 
 pub own_of-own-requires : goal.own_of-own-requires
-own_of-own-requires c = few_held c.passes.ensures (not-false _ c.if-not-passes.false)
+own_of-own-requires c = few_held c.passes.ensures c.if-not-passes.false
 
 pub try_batch-tried-requires : goal.try_batch-tried-requires
 try_batch-tried-requires c =
-    kept (owns c.passes.ensures (not-false _ c.if-not-passes.false) c.own_of-own.ensures)
+    kept (owns c.passes.ensures c.if-not-passes.false c.own_of-own.ensures)
 
 pub returns-in-Refused : goal.returns-in-Refused
 returns-in-Refused c =
     let a = c.args in
-    let w = owns c.passes.ensures (not-false _ c.if-not-passes.false) c.own_of-own.ensures in
+    let w = owns c.passes.ensures c.if-not-passes.false c.own_of-own.ensures in
     let small = small_indices a.batch.entries.index c.well_formed.1.1.1.0.1.1.1.0.1.1.1.0.0 c.well_formed.1.1.1.0.1.1.1.0.1.1.1.0.1.1 in
     shows_refused a.state a.store.now a.identity a.batch a.lent.now a.index _ w small _ c.try_batch-tried.ensures _ c.in-Refused.is
 
 pub show-requires : goal.show-requires
 show-requires c =
     let a = c.args in
-    let w = owns c.passes.ensures (not-false _ c.if-not-passes.false) c.own_of-own.ensures in (
+    let w = owns c.passes.ensures c.if-not-passes.false c.own_of-own.ensures in (
       w.low,
       tried_few a.state a.store.now a.identity a.batch a.lent.now _ (told_refused _ _ _ c.try_batch-tried.ensures c.in_default.is),
     )
@@ -38,6 +38,6 @@ show-requires c =
 pub returns : goal.returns
 returns c =
     let a = c.args in
-    let w = owns c.passes.ensures (not-false _ c.if-not-passes.false) c.own_of-own.ensures in
+    let w = owns c.passes.ensures c.if-not-passes.false c.own_of-own.ensures in
     let small = small_indices a.batch.entries.index c.well_formed.1.1.1.0.1.1.1.0.1.1.1.0.0 c.well_formed.1.1.1.0.1.1.1.0.1.1.1.0.1.1 in
     shows_ready a.state a.store.now a.identity a.batch a.lent.now a.index _ w small c.try_batch-tried.result c.try_batch-tried.ensures c.in_default.is c.show.result (c.show.ensures a.lent.now)

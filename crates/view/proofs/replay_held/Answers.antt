@@ -4,10 +4,10 @@ use borrow.Author.Rules.{rules}
 use Rattle.view.proofs.replay_held.Goals as goal
 
 pub returns-then-not-same_payload : goal.returns-then-not-same_payload
-returns-then-not-same_payload c = simp (eq-eqb _ _ c.if-old-term.true, not-true c.args.same-payload c.if-not-same_payload.true)
+returns-then-not-same_payload c = simp (eq-eqb _ _ c.if-old-term.true, c.if-not-same_payload.true)
 
 pub returns-then-old-term : goal.returns-then-old-term
-returns-then-old-term c = simp (eq-eqb _ _ c.if-old-term.true, not-false c.args.same-payload c.if-not-same_payload.false)
+returns-then-old-term c = simp (eq-eqb _ _ c.if-old-term.true, c.if-not-same_payload.false)
 
 pub returns-then-index-h : goal.returns-then-index-h
 returns-then-index-h c = simp (le-leb _ _ c.if-index-h.true, ne_eqb _ _ c.if-old-term.false)

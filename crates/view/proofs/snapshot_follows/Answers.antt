@@ -15,8 +15,8 @@ returns-then-p-old-2 c = λ i. search (ne_eqb, le-ltb)
 
 pub returns-then-not-same_snapshot : goal.returns-then-not-same_snapshot
 unfolding snapshot_successor_rows
-returns-then-not-same_snapshot c = λ i. rw (sym c.same_snapshot.ensures ∙ not-true _ c.if-not-same_snapshot.true, eq-eqb i.group i.group refl, eq-eqb i.replica i.replica refl, le-ltb _ _ c.if-p-old.false, eq-eqb _ _ c.if-p-old-2.false)
+returns-then-not-same_snapshot c = λ i. rw (sym c.same_snapshot.ensures ∙ c.if-not-same_snapshot.true, eq-eqb i.group i.group refl, eq-eqb i.replica i.replica refl, le-ltb _ _ c.if-p-old.false, eq-eqb _ _ c.if-p-old-2.false)
 
 pub returns : goal.returns
 unfolding snapshot_successor_rows
-returns c = λ i. rw (sym c.same_snapshot.ensures ∙ not-false _ c.if-not-same_snapshot.false, eq-eqb i.group i.group refl, eq-eqb i.replica i.replica refl, le-ltb _ _ c.if-p-old.false, eq-eqb _ _ c.if-p-old-2.false)
+returns c = λ i. rw (sym c.same_snapshot.ensures ∙ c.if-not-same_snapshot.false, eq-eqb i.group i.group refl, eq-eqb i.replica i.replica refl, le-ltb _ _ c.if-p-old.false, eq-eqb _ _ c.if-p-old-2.false)

@@ -11,7 +11,7 @@ pub returns-in-Refused : goal.returns-in-Refused
 returns-in-Refused c = rw (pointer_join (identity_of c.args.identity) c.args.head c.args.lsn c.args.held c.args.p, sym c.check_pointer_form.ensures ∙ ap checked_of c.in-Refused.is)
 
 pub returns-then-not-same_identity : goal.returns-then-not-same_identity
-returns-then-not-same_identity c = rw (pointer_join (identity_of c.args.identity) c.args.head c.args.lsn c.args.held c.args.p, sym c.check_pointer_form.ensures ∙ ap checked_of c.in_default.is, sym c.same_identity.ensures ∙ not-true _ c.if-not-same_identity.true)
+returns-then-not-same_identity c = rw (pointer_join (identity_of c.args.identity) c.args.head c.args.lsn c.args.held c.args.p, sym c.check_pointer_form.ensures ∙ ap checked_of c.in_default.is, sym c.same_identity.ensures ∙ c.if-not-same_identity.true)
 
 pub returns : goal.returns
-returns c = rw (pointer_join (identity_of c.args.identity) c.args.head c.args.lsn c.args.held c.args.p, sym c.check_pointer_form.ensures ∙ ap checked_of c.in_default.is, sym c.same_identity.ensures ∙ not-false _ c.if-not-same_identity.false) (c.check_placed.ensures (identity_of c.args.identity))
+returns c = rw (pointer_join (identity_of c.args.identity) c.args.head c.args.lsn c.args.held c.args.p, sym c.check_pointer_form.ensures ∙ ap checked_of c.in_default.is, sym c.same_identity.ensures ∙ c.if-not-same_identity.false) (c.check_placed.ensures (identity_of c.args.identity))

@@ -28,7 +28,7 @@ use Rattle.recovery.proofs.observing.observe_records.Goals as goal
 pub returns-then-not-is_sound : goal.returns-then-not-is_sound
 returns-then-not-is_sound c =
     let a = c.args in
-    runs_unsound a.state a.store.now _ _ (sym c.is_sound.ensures ∙ not-true _ c.if-not-is_sound.true) _ refl
+    runs_unsound a.state a.store.now _ _ (sym c.is_sound.ensures ∙ c.if-not-is_sound.true) _ refl
 
 pub loop-i-init : goal.loop-i-init
 loop-i-init c =
@@ -42,7 +42,7 @@ loop-i-init c =
       n,
       omega arith,
       refl,
-      chunk_start _ a.state a.store.now (take at_most.result a.t2) a.lent.now eight all (sym c.is_sound.ensures ∙ not-false _ c.if-not-is_sound.false) (taken_length a.t2 _ (omega arith)),
+      chunk_start _ a.state a.store.now (take at_most.result a.t2) a.lent.now eight all (sym c.is_sound.ensures ∙ c.if-not-is_sound.false) (taken_length a.t2 _ (omega arith)),
       c.identities-own.ensures,
     )
 

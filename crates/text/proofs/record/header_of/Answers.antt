@@ -19,12 +19,12 @@ returns-then-word-head c = simp (eq-eqb _ _ c.if-line-ne1.false, eq-eqb _ _ c.if
 
 pub returns-then-not-is_number : goal.returns-then-not-is_number
 unfolding line_header
-returns-then-not-is_number c = simp (eq-eqb _ _ c.if-line-ne1.false, eq-eqb _ _ c.if-word-len.false, eq-eqb _ _ c.if-word-head.false, sym c.is_number.ensures ∙ not-true c.is_number.result c.if-not-is_number.true)
+returns-then-not-is_number c = simp (eq-eqb _ _ c.if-line-ne1.false, eq-eqb _ _ c.if-word-len.false, eq-eqb _ _ c.if-word-head.false, sym c.is_number.ensures ∙ c.if-not-is_number.true)
 
 pub returns-then-most-n : goal.returns-then-most-n
 unfolding line_header
-returns-then-most-n c = simp (eq-eqb _ _ c.if-line-ne1.false, eq-eqb _ _ c.if-word-len.false, eq-eqb _ _ c.if-word-head.false, sym c.is_number.ensures ∙ not-false c.is_number.result c.if-not-is_number.false, lt-leb _ _ c.if-most-n.true)
+returns-then-most-n c = simp (eq-eqb _ _ c.if-line-ne1.false, eq-eqb _ _ c.if-word-len.false, eq-eqb _ _ c.if-word-head.false, sym c.is_number.ensures ∙ c.if-not-is_number.false, lt-leb _ _ c.if-most-n.true)
 
 pub returns : goal.returns
 unfolding line_header
-returns c = simp (eq-eqb _ _ c.if-line-ne1.false, eq-eqb _ _ c.if-word-len.false, eq-eqb _ _ c.if-word-head.false, sym c.is_number.ensures ∙ not-false c.is_number.result c.if-not-is_number.false, le-leb _ _ c.if-most-n.false)
+returns c = simp (eq-eqb _ _ c.if-line-ne1.false, eq-eqb _ _ c.if-word-len.false, eq-eqb _ _ c.if-word-head.false, sym c.is_number.ensures ∙ c.if-not-is_number.false, le-leb _ _ c.if-most-n.false)

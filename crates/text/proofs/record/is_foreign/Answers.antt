@@ -11,8 +11,8 @@ returns-then-line-ne1 c = rw (ne_eqb _ _ c.if-line-ne1.true)
 
 pub returns-then-not-is_letter : goal.returns-then-not-is_letter
 unfolding foreign_line
-returns-then-not-is_letter c = rw (eq-eqb _ _ c.if-line-ne1.false, sym c.is_letter.ensures ∙ not-true c.is_letter.result c.if-not-is_letter.true)
+returns-then-not-is_letter c = rw (eq-eqb _ _ c.if-line-ne1.false, sym c.is_letter.ensures ∙ c.if-not-is_letter.true)
 
 pub returns : goal.returns
 unfolding foreign_line
-returns c = rw (eq-eqb _ _ c.if-line-ne1.false, sym c.is_letter.ensures ∙ not-false c.is_letter.result c.if-not-is_letter.false) c.is_number.ensures
+returns c = rw (eq-eqb _ _ c.if-line-ne1.false, sym c.is_letter.ensures ∙ c.if-not-is_letter.false) c.is_number.ensures

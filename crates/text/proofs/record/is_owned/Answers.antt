@@ -7,12 +7,12 @@ use Rattle.text.proofs.record.is_owned.Goals as goal
 
 pub returns-then-not-is_number : goal.returns-then-not-is_number
 unfolding owned_line
-returns-then-not-is_number c = simp (sym c.is_number.ensures ∙ not-true c.is_number.result c.if-not-is_number.true)
+returns-then-not-is_number c = simp (sym c.is_number.ensures ∙ c.if-not-is_number.true)
 
 pub returns-then-not-is_version : goal.returns-then-not-is_version
 unfolding owned_line
-returns-then-not-is_version c = simp (sym c.is_number.ensures ∙ not-false c.is_number.result c.if-not-is_number.false, sym c.is_version.ensures ∙ not-true c.is_version.result c.if-not-is_version.true)
+returns-then-not-is_version c = simp (sym c.is_number.ensures ∙ c.if-not-is_number.false, sym c.is_version.ensures ∙ c.if-not-is_version.true)
 
 pub returns : goal.returns
 unfolding owned_line
-returns c = rw (sym c.is_number.ensures ∙ not-false c.is_number.result c.if-not-is_number.false, sym c.is_version.ensures ∙ not-false c.is_version.result c.if-not-is_version.false) c.are_numbers.ensures
+returns c = rw (sym c.is_number.ensures ∙ c.if-not-is_number.false, sym c.is_version.ensures ∙ c.if-not-is_version.false) c.are_numbers.ensures

@@ -5,7 +5,7 @@ use borrow.Author.Rules.{rules}
 use Rattle.text.proofs.record.is_version.Goals as goal
 
 pub returns-then-not-is_number : goal.returns-then-not-is_number
-returns-then-not-is_number c = simp (sym c.is_number.ensures ∙ not-true c.is_number.result c.if-not-is_number.true)
+returns-then-not-is_number c = simp (sym c.is_number.ensures ∙ c.if-not-is_number.true)
 
 pub returns : goal.returns
-returns c = simp (sym c.is_number.ensures ∙ not-false c.is_number.result c.if-not-is_number.false)
+returns c = simp (sym c.is_number.ensures ∙ c.if-not-is_number.false)

@@ -7,15 +7,15 @@ use Rattle.text.proofs.record.payload_of.Goals as goal
 
 pub returns-then-not-is_letter : goal.returns-then-not-is_letter
 unfolding payload_on
-returns-then-not-is_letter c = rw (eq-eqb _ _ c.if-line-eq8.true, sym c.is_letter.ensures ∙ not-true c.is_letter.result c.if-not-is_letter.true)
+returns-then-not-is_letter c = rw (eq-eqb _ _ c.if-line-eq8.true, sym c.is_letter.ensures ∙ c.if-not-is_letter.true)
 
 pub returns-then-not-is_number : goal.returns-then-not-is_number
 unfolding payload_on
-returns-then-not-is_number c = rw (eq-eqb _ _ c.if-line-eq8.true, sym c.is_letter.ensures ∙ not-false c.is_letter.result c.if-not-is_letter.false, sym c.is_number.ensures ∙ not-true c.is_number.result c.if-not-is_number.true)
+returns-then-not-is_number c = rw (eq-eqb _ _ c.if-line-eq8.true, sym c.is_letter.ensures ∙ c.if-not-is_letter.false, sym c.is_number.ensures ∙ c.if-not-is_number.true)
 
 pub returns-then-line-eq8 : goal.returns-then-line-eq8
 unfolding payload_on
-returns-then-line-eq8 c = rw (eq-eqb _ _ c.if-line-eq8.true, sym c.is_letter.ensures ∙ not-false c.is_letter.result c.if-not-is_letter.false, sym c.is_number.ensures ∙ not-false c.is_number.result c.if-not-is_number.false) c.command_at.ensures
+returns-then-line-eq8 c = rw (eq-eqb _ _ c.if-line-eq8.true, sym c.is_letter.ensures ∙ c.if-not-is_letter.false, sym c.is_number.ensures ∙ c.if-not-is_number.false) c.command_at.ensures
 
 pub returns-then-line-ne9 : goal.returns-then-line-ne9
 unfolding payload_on
@@ -23,8 +23,8 @@ returns-then-line-ne9 c = rw (ne_eqb _ _ c.if-line-eq8.false, ne_eqb _ _ c.if-li
 
 pub returns-then-not-are_numbers : goal.returns-then-not-are_numbers
 unfolding payload_on
-returns-then-not-are_numbers c = rw (ne_eqb _ _ c.if-line-eq8.false, eq-eqb _ _ c.if-line-ne9.false, sym c.are_numbers.ensures ∙ not-true c.are_numbers.result c.if-not-are_numbers.true)
+returns-then-not-are_numbers c = rw (ne_eqb _ _ c.if-line-eq8.false, eq-eqb _ _ c.if-line-ne9.false, sym c.are_numbers.ensures ∙ c.if-not-are_numbers.true)
 
 pub returns : goal.returns
 unfolding payload_on
-returns c = rw (ne_eqb _ _ c.if-line-eq8.false, eq-eqb _ _ c.if-line-ne9.false, sym c.are_numbers.ensures ∙ not-false c.are_numbers.result c.if-not-are_numbers.false) c.change_of.ensures
+returns c = rw (ne_eqb _ _ c.if-line-eq8.false, eq-eqb _ _ c.if-line-ne9.false, sym c.are_numbers.ensures ∙ c.if-not-are_numbers.false) c.change_of.ensures

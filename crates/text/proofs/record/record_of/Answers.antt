@@ -21,12 +21,12 @@ returns-then-is_pointer c = rw (sym c.is_foreign.ensures ∙ c.if-is_foreign.fal
 
 pub returns-then-not-is_entry : goal.returns-then-not-is_entry
 unfolding line_record
-returns-then-not-is_entry c = rw (sym c.is_foreign.ensures ∙ c.if-is_foreign.false, sym c.is_hard_state.ensures ∙ c.if-is_hard_state.false, sym c.is_pointer.ensures ∙ c.if-is_pointer.false, sym c.is_entry.ensures ∙ not-true c.is_entry.result c.if-not-is_entry.true)
+returns-then-not-is_entry c = rw (sym c.is_foreign.ensures ∙ c.if-is_foreign.false, sym c.is_hard_state.ensures ∙ c.if-is_hard_state.false, sym c.is_pointer.ensures ∙ c.if-is_pointer.false, sym c.is_entry.ensures ∙ c.if-not-is_entry.true)
 
 pub returns-in_default : goal.returns-in_default
 unfolding line_record
-returns-in_default c = rw (sym c.is_foreign.ensures ∙ c.if-is_foreign.false, sym c.is_hard_state.ensures ∙ c.if-is_hard_state.false, sym c.is_pointer.ensures ∙ c.if-is_pointer.false, sym c.is_entry.ensures ∙ not-false c.is_entry.result c.if-not-is_entry.false, sym c.payload_of.ensures ∙ c.in_default.is)
+returns-in_default c = rw (sym c.is_foreign.ensures ∙ c.if-is_foreign.false, sym c.is_hard_state.ensures ∙ c.if-is_hard_state.false, sym c.is_pointer.ensures ∙ c.if-is_pointer.false, sym c.is_entry.ensures ∙ c.if-not-is_entry.false, sym c.payload_of.ensures ∙ c.in_default.is)
 
 pub returns : goal.returns
 unfolding line_record
-returns c = rw (sym c.is_foreign.ensures ∙ c.if-is_foreign.false, sym c.is_hard_state.ensures ∙ c.if-is_hard_state.false, sym c.is_pointer.ensures ∙ c.if-is_pointer.false, sym c.is_entry.ensures ∙ not-false c.is_entry.result c.if-not-is_entry.false, sym c.payload_of.ensures ∙ c.in-Some.is) (ap (λ (r : WalRecord). M.Some r) c.entry_record.ensures)
+returns c = rw (sym c.is_foreign.ensures ∙ c.if-is_foreign.false, sym c.is_hard_state.ensures ∙ c.if-is_hard_state.false, sym c.is_pointer.ensures ∙ c.if-is_pointer.false, sym c.is_entry.ensures ∙ c.if-not-is_entry.false, sym c.payload_of.ensures ∙ c.in-Some.is) (ap (λ (r : WalRecord). M.Some r) c.entry_record.ensures)
