@@ -1,15 +1,49 @@
 #!/usr/bin/env bash
 # must-fail-places.sh [CRATE...]: a refused edit shows something only if it was refused at the place that it is about. Each fault of a
 # crates/NAME/must-fail/*.edit says that place, '# expect: FILE DECLARATION'; an edit may have several faults, each in a file: part of
-# its own. The log must have an error of that declaration's own (not one that only passes on another's) in which a fact fails: that the
-# proof names a place which the edited program no longer has shows nothing. And, unless the place itself is a definition, there may be no
-# error of a definition: an edit that does not make sense shows nothing either. Counted apart, as weaker: faults whose only errors say
-# that a rewrite no longer applies (what the program tests or does is not what the goal speaks of). Run after rt ci.
+# its own. rt must-fail prints one error of an edit, so each edit is checked here once more, in a copy of the crates, and all its errors are
+# read: there must be one of that declaration's own (not one that only passes on another's) in which a fact fails. That the proof names a
+# place which the edited program no longer has shows nothing. Nor may a definition be refused, or the edited text not be read: an edit
+# that makes no sense shows nothing either. Counted apart, as weaker: faults whose only errors say that a rewrite no longer applies (what
+# the program tests or does is not what the goal speaks of). With LOGS=FOLDER the logs stay there. Run after rt ci or rt all check.
 set -euo pipefail
 cd "$(dirname "${BASH_SOURCE[0]}")/.."
 
 faults=0 edits=0 rewrites=0 wrong=0
 say() { echo "must-fail-places: $*"; wrong=$((wrong + 1)); }
+
+room=$(mktemp -d)
+trap 'rm -rf "$room"' EXIT
+mkdir "$room/crates"
+tar -c --exclude=out crates crates.txt $(ls HANDLES 2>/dev/null || true) | tar -x -C "$room"
+
+# A check of a crate of the copy, once more if it did not come to an end.
+check() { # CRATE LOG
+    for _ in 1 2; do
+        (cd "$room/crates/$1" && rt check) >"$2" 2>&1 || true
+        ! grep -q '^logic=' "$2" || return 0
+    done
+}
+
+# Each old: text stands once and becomes its new: text, as rt does it.
+apply() { # EDIT FOLDER
+    python3 - "$1" "$2" <<'END'
+import sys
+path, old, texts = '', None, {}
+for line in open(sys.argv[1], encoding='utf-8').read().split('\n'):
+    if line.startswith('file: '):
+        path = sys.argv[2] + '/' + line[6:].strip()
+    elif line.startswith('old: '):
+        old = line[5:]
+    elif line.startswith('new:'):
+        text = texts.get(path) or open(path, encoding='utf-8').read()
+        if text.count(old) != 1:
+            sys.exit('%s has %d times: %s' % (path, text.count(old), old))
+        texts[path] = text.replace(old, line[4:].removeprefix(' '))
+for path, text in texts.items():
+    open(path, 'w', encoding='utf-8').write(text)
+END
+}
 
 # FILE DECLARATION of each error of a log that is the declaration's own.
 own_errors() { # LOG
@@ -20,27 +54,25 @@ own_errors() { # LOG
 others() { # LOG KINDS
     grep ': error: ' "$1" | grep -vE "$2" | places
 }
-no_fact='was not admitted|has no field|that can be named from here'
+no_fact='was not admitted|has no field|has no `|is not in scope|is no name|that can be named from here'
 rewrite='no occurrence of the path|has an instance in the goal|no part of the goal'
 
 places() {
-    sed -n 's|^.*/must-fail/[^/]*/[^/]*/\([^:]*\):[0-9]*:[0-9]*: error: `\([^`]*\)`.*|\1 \2|p'
+    sed -n 's|^\(\./\)\{0,1\}\([^: ]*\):[0-9]*:[0-9]*: error: `\([^`]*\)`: .*|\2 \3|p'
 }
 
-check() { # EDIT
-    local crate=${1#crates/} label log expects errors facts firm expect broken
-    crate=${crate%%/*} label=$(basename "$1" .edit)
-    log=target/must-fail/$crate/$label/.log
+judge() { # EDIT LOG
+    local expects errors facts firm expect broken unread
     expects=$(sed -n 's/^# expect: //p' "$1")
     edits=$((edits + 1))
     [ -n "$expects" ] || { say "$1 has no '# expect: FILE DECLARATION' line"; return; }
-    [ -f "$log" ] || { say "$1 has no log: it was not tried"; return; }
     if [ "$(wc -l <<<"$expects")" -gt 1 ] && [ "$(wc -l <<<"$expects")" -ne "$(grep -c '^file: ' "$1")" ]; then
         say "$1: not one 'file:' line for each '# expect:' line"
     fi
-    errors=$(own_errors "$log" || true)
-    facts=$(others "$log" "$no_fact" || true)
-    firm=$(others "$log" "$no_fact|$rewrite" || true)
+    grep -q '^logic=not-proved' "$2" || { say "$1 was not refused: '$(tail -n 1 "$2")'"; return; }
+    errors=$(own_errors "$2" || true)
+    facts=$(others "$2" "$no_fact" || true)
+    firm=$(others "$2" "$no_fact|$rewrite" || true)
     while IFS= read -r expect; do
         faults=$((faults + 1))
         if ! grep -qxF -- "$expect" <<<"$errors"; then
@@ -53,12 +85,31 @@ check() { # EDIT
     done <<<"$expects"
     broken=$(grep -E '^(src|specs)/' <<<"$errors" | grep -vE '^specs/Cases(/|[.]antt)' | grep -vxF -- "$expects" || true)
     [ -z "$broken" ] || say "$1: a definition is refused too: '$(head -n 1 <<<"$broken")'"
+    unread=$(grep -E '^(\./)?(src|specs)/[^: ]*:[0-9]+:[0-9]+: error: [^`]|error\[' "$2" || true)
+    [ -z "$unread" ] || say "$1: the edited text cannot be read: '$(head -n 1 <<<"$unread")'"
 }
 
-for crate in ${@:-$(ls crates)}; do
+logs=${LOGS:-$room/logs}
+for crate in ${@:-$(sed -n 's/^\([a-z][a-z0-9_]*\)[^:]*:.*/\1/p' crates.txt)}; do
+    ls crates/"$crate"/must-fail/*.edit >/dev/null 2>&1 || continue
+    mkdir -p "$logs/$crate"
+    check "$crate" "$logs/$crate/.log"
+    grep -q '^logic=proved' "$logs/$crate/.log" || { say "$crate is not proved as it stands: '$(grep -m 1 error "$logs/$crate/.log")'"; continue; }
+    mkdir "$room/kept"
+    tar -c -C "$room/crates/$crate" --exclude=out . | tar -x -C "$room/kept"
     for edit in crates/"$crate"/must-fail/*.edit; do
-        [ ! -f "$edit" ] || check "$edit"
+        log=$logs/$crate/$(basename "$edit" .edit).log
+        if apply "$edit" "$room/crates/$crate" 2>"$log"; then
+            check "$crate" "$log"
+            judge "$edit" "$log"
+        else
+            say "$edit does not apply: $(tail -n 1 "$log")"
+        fi
+        for part in src specs proofs; do
+            [ ! -d "$room/kept/$part" ] || cp -r "$room/kept/$part" "$room/crates/$crate/"
+        done
     done
+    rm -rf "$room/kept"
 done
 [ "$edits" -gt 0 ] || say "no edit was found"
 [ "$wrong" -eq 0 ] || exit 1
