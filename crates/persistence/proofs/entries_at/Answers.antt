@@ -13,7 +13,7 @@ use Rattle.persistence.proofs.entries_at.Goals as goal
 pub loop-q-init : goal.loop-q-init
 loop-q-init c =
     let a = c.args in
-    let l : length a.state.entries ≡ 512 = sym (length-map a.state.entries (Rattle.view.specs.contracts.RecoveredRaftLogEntry.the_type).to) ∙ c.well_formed.0.1.1.1.0.1.0.1 in (
+    let l : length a.state.entries ≡ 512 = search rules in (
       search rules,
       c.requires,
       l,

@@ -11,6 +11,7 @@ use Rattle.store.proofs.Flag.{flag_set, flag_kept}
 use Rattle.soundness.specs.Sound.{heads_rise}
 use Rattle.soundness.proofs.Step.{heads_left, heads_begin, heads_step, heads_end}
 use Rattle.soundness.proofs.heads_rise.Goals as goal
+use Rattle.soundness.proofs.heads_rise.Goals.{then-not-precedes, else-not-precedes}
 
 pub loop-i-init : goal.loop-i-init
 loop-i-init c = (omega arith, heads_begin c.args.n c.args.heads)
@@ -45,10 +46,10 @@ loop-i-preserved c =
     let s = c.args in
     let walk = heads_step s.n s.heads l.i c.loop-i-test.true in (
       omega arith,
-      l.invariant.1 ∙ ⊎_elim
-          (λ w. rw w.1 (flag_set l.bad _ _ walk (sym c.precedes.ensures ∙ not-true _ w.0.taken)))
-          (λ w. rw w.1 (flag_kept l.bad _ _ walk (sym c.precedes.ensures ∙ not-false _ w.0.left)))
-          c.if-not-precedes.branch,
+      l.invariant.1 ∙ elim c.if-not-precedes.branch [
+        then-not-precedes w ↦ rw w.bad-is (flag_set l.bad _ _ walk (sym c.precedes.ensures ∙ w.if-not-precedes.true))
+        | else-not-precedes w ↦ rw w.bad-is (flag_kept l.bad _ _ walk (sym c.precedes.ensures ∙ w.if-not-precedes.false))
+      ],
     )
 
 pub returns : goal.returns

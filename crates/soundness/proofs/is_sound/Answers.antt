@@ -15,20 +15,8 @@ use Rattle.storage.specs.declared.RecoveredRaftStorage.{RecoveredRaftStorage}
 use Rattle.soundness.specs.Sound.{replicas_ok, sound_clauses, sound_test}
 use Rattle.clauses.proofs.Laws.{tail_is}
 use Rattle.soundness.proofs.Step.{kept, replicas_left, replicas_begin, replicas_end, walked_short, block_left, head_turn, entry_turn, block_turn}
+use Rattle.soundness.proofs.is_sound.Invariants.{last_of, left, within}
 use Rattle.soundness.proofs.is_sound.Goals as goal
-
--- LEFT helper
-abbrev last_of : RecoveredRaftStorage → Option ℕ
-last_of s = lsn_of s.scan.last_scanned_lsn
-
--- LEFT helper
--- What is asked of the replicas from p on, and of the entries and block of replica p from entry q on, of n.
-abbrev left : RecoveredRaftStorage → List ℕ → ℕ → Bool
-left s st p = replicas_left (last_of s) s.held s.heads s.entries st p
-
--- LEFT helper
-abbrev within : RecoveredRaftStorage → List ℕ → ℕ → ℕ → ℕ → Bool
-within s st p n q = block_left (last_of s) s.heads s.entries st p n q
 
 pub returns-then-store-ne32768 : goal.returns-then-store-ne32768
 unfolding sound_clauses

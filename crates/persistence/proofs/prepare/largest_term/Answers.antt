@@ -10,7 +10,7 @@ use Rattle.persistence.proofs.prepare.largest_term.Goals as goal
 pub loop-q-init : goal.loop-q-init
 loop-q-init c =
     let p = c.args.preview in
-    let l : length p.entries ≡ 64 = sym (length-map p.entries (Rattle.view.specs.contracts.RecoveredRaftLogEntry.the_type).to) ∙ c.well_formed.0.1.1.1.0.1.0.1 in
+    let l : length p.entries ≡ 64 = search rules in
     (refl, largest_start p.head p.entries l)
 
 pub returns-then-q-ge64 : goal.returns-then-q-ge64

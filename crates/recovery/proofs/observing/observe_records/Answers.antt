@@ -35,8 +35,8 @@ loop-i-init c =
     let at_most = c.at_most-n in
     let a = c.args in
     let g = c.well_formed in
-    let eight : length a.state.heads ≡ 8 = sym (length-map a.state.heads (Rattle.view.specs.contracts.Header.the_type).to) ∙ g.0.1.1.0.1.0.1 in
-    let all : length a.state.entries ≡ 512 = sym (length-map a.state.entries (Rattle.view.specs.contracts.RecoveredRaftLogEntry.the_type).to) ∙ g.0.1.1.1.0.1.0.1 in
+    let eight : length a.state.heads ≡ 8 = search rules in
+    let all : length a.state.entries ≡ 512 = search rules in
     let records : length a.records ≡ 256 = search rules in
     let n : at_most.result ≤ 256 = rw at_most.ensures (most_is a.count) in (
       n,
