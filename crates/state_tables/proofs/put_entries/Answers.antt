@@ -39,5 +39,5 @@ returns c =
     let l = c.loop-q in
     let n = c.len_of-len.ensures in
     let a = c.args in
-    let e : l.q ≡ len_of (head_at a.t3 a.p) = omega (arith, n) in
+    let e : l.q ≡ len_of (head_at a.state a.p) = omega (arith, n) in
     rw (← e) (said refl (omega (arith, n, c.requires)) l.invariant.1)

@@ -33,5 +33,5 @@ shape_of-out c = c.loop-q.invariant.2
 pub returns : goal.returns
 returns c =
     let l = c.loop-q in
-    let e : l.q ≡ len_of (head_at c.args.t3 c.args.p) = omega (arith, c.len_of-len.ensures) in
+    let e : l.q ≡ len_of (head_at c.args.state c.args.p) = omega (arith, c.len_of-len.ensures) in
     rw (← e) (said refl (omega (arith, c.len_of-len.ensures, c.requires)) l.invariant.1)

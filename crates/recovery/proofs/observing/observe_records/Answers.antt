@@ -35,14 +35,14 @@ loop-i-init c =
     let at_most = c.at_most-n in
     let a = c.args in
     let g = c.well_formed in
-    let eight : length a.state.heads ≡ 8 = sym (length-map a.state.heads (Rattle.view.specs.contracts.Header.the_type).to) ∙ g.0.1.1.0.1.0.1 in
-    let all : length a.state.entries ≡ 512 = sym (length-map a.state.entries (Rattle.view.specs.contracts.RecoveredRaftLogEntry.the_type).to) ∙ g.0.1.1.1.0.1.0.1 in
-    let records : length a.t2 ≡ 256 = search rules in
+    let eight : length a.state.heads ≡ 8 = search rules in
+    let all : length a.state.entries ≡ 512 = search rules in
+    let records : length a.records ≡ 256 = search rules in
     let n : at_most.result ≤ 256 = rw at_most.ensures (most_is a.count) in (
       n,
       omega arith,
       refl,
-      chunk_start _ a.state a.store.now (take at_most.result a.t2) a.lent.now eight all (sym c.is_sound.ensures ∙ c.if-not-is_sound.false) (taken_length a.t2 _ (omega arith)),
+      chunk_start _ a.state a.store.now (take at_most.result a.records) a.lent.now eight all (sym c.is_sound.ensures ∙ c.if-not-is_sound.false) (taken_length a.records _ (omega arith)),
       c.identities-own.ensures,
     )
 
@@ -53,8 +53,8 @@ returns-in-Refused c =
     let loop-test = c.loop-i-test in
     let index_of = c.index_of-index in
     let m = rw c.in-Refused.is at c.admit.ensures in
-    runs_most args.state args.store.now args.t2 args.lent.now _ args.count _ _ c.at_most-n.ensures
-    (chunk_refused _ args.state args.store.now _ args.lent.now loop.t loop.store (answer_of loop.answer) loop.i loop.invariant.3 loop-test.true no_record (get_or args.t2 loop.i no_record) (at_take args.t2 _ loop.i no_record loop-test.true) (index_fits_lem (get_or args.t2 loop.i no_record) _ index_of.ensures index_of.type-inv) _ (stepped_stale loop.t loop.store (get_or args.t2 loop.i no_record) args.lent.now _ m) _ refl _ _ refl)
+    runs_most args.state args.store.now args.records args.lent.now _ args.count _ _ c.at_most-n.ensures
+    (chunk_refused _ args.state args.store.now _ args.lent.now loop.t loop.store (answer_of loop.answer) loop.i loop.invariant.3 loop-test.true no_record (get_or args.records loop.i no_record) (at_take args.records _ loop.i no_record loop-test.true) (index_fits_lem (get_or args.records loop.i no_record) _ index_of.ensures index_of.type-inv) _ (stepped_stale loop.t loop.store (get_or args.records loop.i no_record) args.lent.now _ m) _ refl _ _ refl)
 
 pub loop-i-smaller-in-Counted : goal.loop-i-smaller-in-Counted
 loop-i-smaller-in-Counted c = omega (arith, c.loop-i-test.true)
@@ -66,7 +66,7 @@ loop-i-preserved-in-Counted c =
     let args = c.args in
     let index_of = c.index_of-index in
     let m = rw c.in-Counted.is at c.admit.ensures in
-    (loop.invariant.0, omega (arith, loop-test.true), loop.invariant.2, chunk_takes _ args.state args.store.now _ args.lent.now loop.t loop.store (answer_of loop.answer) loop.i loop.invariant.3 loop-test.true no_record (get_or args.t2 loop.i no_record) (at_take args.t2 _ loop.i no_record loop-test.true) (index_fits_lem (get_or args.t2 loop.i no_record) _ index_of.ensures index_of.type-inv) _ (stepped_foreign loop.t loop.store (get_or args.t2 loop.i no_record) args.lent.now m.0 m.2 ∙ scanned_by _ loop.t loop.store (get_or args.t2 loop.i no_record).lsn _ m.1) refl, loop.invariant.4)
+    (loop.invariant.0, omega (arith, loop-test.true), loop.invariant.2, chunk_takes _ args.state args.store.now _ args.lent.now loop.t loop.store (answer_of loop.answer) loop.i loop.invariant.3 loop-test.true no_record (get_or args.records loop.i no_record) (at_take args.records _ loop.i no_record loop-test.true) (index_fits_lem (get_or args.records loop.i no_record) _ index_of.ensures index_of.type-inv) _ (stepped_foreign loop.t loop.store (get_or args.records loop.i no_record) args.lent.now m.0 m.2 ∙ scanned_by _ loop.t loop.store (get_or args.records loop.i no_record).lsn _ m.1) refl, loop.invariant.4)
 
 pub returns-in-Malformed : goal.returns-in-Malformed
 returns-in-Malformed c =
@@ -75,8 +75,8 @@ returns-in-Malformed c =
     let loop-test = c.loop-i-test in
     let index_of = c.index_of-index in
     let m = rw c.in-Malformed.is at c.admit.ensures in
-    runs_most args.state args.store.now args.t2 args.lent.now _ args.count _ _ c.at_most-n.ensures
-    (chunk_refused _ args.state args.store.now _ args.lent.now loop.t loop.store (answer_of loop.answer) loop.i loop.invariant.3 loop-test.true no_record (get_or args.t2 loop.i no_record) (at_take args.t2 _ loop.i no_record loop-test.true) (index_fits_lem (get_or args.t2 loop.i no_record) _ index_of.ensures index_of.type-inv) _ (stepped_malformed loop.t loop.store (get_or args.t2 loop.i no_record) args.lent.now m.0 m.2.kind m.2.is _ m.2.row ∙ scanned_by _ loop.t loop.store (get_or args.t2 loop.i no_record).lsn _ m.1) _ refl _ _ refl)
+    runs_most args.state args.store.now args.records args.lent.now _ args.count _ _ c.at_most-n.ensures
+    (chunk_refused _ args.state args.store.now _ args.lent.now loop.t loop.store (answer_of loop.answer) loop.i loop.invariant.3 loop-test.true no_record (get_or args.records loop.i no_record) (at_take args.records _ loop.i no_record loop-test.true) (index_fits_lem (get_or args.records loop.i no_record) _ index_of.ensures index_of.type-inv) _ (stepped_malformed loop.t loop.store (get_or args.records loop.i no_record) args.lent.now m.0 m.2.kind m.2.is _ m.2.row ∙ scanned_by _ loop.t loop.store (get_or args.records loop.i no_record).lsn _ m.1) _ refl _ _ refl)
 
 pub find-requires : goal.find-requires
 find-requires c = c.loop-i.invariant.3.running.ready.linked.few
@@ -89,8 +89,8 @@ returns-then-t-ge8 c =
     let loop-test = c.loop-i-test in
     let index_of = c.index_of-index in
     let m = rw next3.given.1 at c.admit.ensures in
-    runs_most args.state args.store.now args.t2 args.lent.now _ args.count _ _ c.at_most-n.ensures
-    (chunk_refused _ args.state args.store.now _ args.lent.now loop.t loop.store (answer_of loop.answer) loop.i loop.invariant.3 loop-test.true no_record (get_or args.t2 loop.i no_record) (at_take args.t2 _ loop.i no_record loop-test.true) (index_fits_lem (get_or args.t2 loop.i no_record) _ index_of.ensures index_of.type-inv) _ (stepped_full loop.t loop.store (get_or args.t2 loop.i no_record) args.lent.now m.0 next3.given.0.1.0 m.2 m.3 _ (found_of loop.t next3.given.0.1.0 _ _ _ _ loop.invariant.4 c.owner-identity.ensures c.find.ensures c.in-Missing.is) c.if-t-ge8.true ∙ scanned_by _ loop.t loop.store (get_or args.t2 loop.i no_record).lsn _ m.1) _ refl _ _ refl)
+    runs_most args.state args.store.now args.records args.lent.now _ args.count _ _ c.at_most-n.ensures
+    (chunk_refused _ args.state args.store.now _ args.lent.now loop.t loop.store (answer_of loop.answer) loop.i loop.invariant.3 loop-test.true no_record (get_or args.records loop.i no_record) (at_take args.records _ loop.i no_record loop-test.true) (index_fits_lem (get_or args.records loop.i no_record) _ index_of.ensures index_of.type-inv) _ (stepped_full loop.t loop.store (get_or args.records loop.i no_record) args.lent.now m.0 next3.given.0.1.0 m.2 m.3 _ (found_of loop.t next3.given.0.1.0 _ _ _ _ loop.invariant.4 c.owner-identity.ensures c.find.ensures c.in-Missing.is) c.if-t-ge8.true ∙ scanned_by _ loop.t loop.store (get_or args.records loop.i no_record).lsn _ m.1) _ refl _ _ refl)
 
 pub open_place-t-requires : goal.open_place-t-requires
 open_place-t-requires c =
@@ -110,7 +110,7 @@ loop-i-preserved-in-Missing c =
     let loop-test = c.loop-i-test in
     let index_of = c.index_of-index in
     let m = rw next3.given.1 at c.admit.ensures in
-    let x = chunk_at _ args.state args.store.now _ args.lent.now _ _ _ _ (answer_of loop.answer) loop.i (rw owner.ensures at open_place.ensures.0) open_place.ensures.1 (chunk_opened _ args.state args.store.now _ args.lent.now loop.t loop.store (answer_of loop.answer) loop.i loop.invariant.3 loop-test.true no_record (get_or args.t2 loop.i no_record) (at_take args.t2 _ loop.i no_record loop-test.true) (index_fits_lem (get_or args.t2 loop.i no_record) _ index_of.ensures index_of.type-inv) m.0 next3.given.0.1.0 m.2 m.3 _ (found_of loop.t next3.given.0.1.0 _ _ _ _ loop.invariant.4 owner.ensures c.find.ensures c.in-Missing.is) c.if-t-ge8.false) in
+    let x = chunk_at _ args.state args.store.now _ args.lent.now _ _ _ _ (answer_of loop.answer) loop.i (rw owner.ensures at open_place.ensures.0) open_place.ensures.1 (chunk_opened _ args.state args.store.now _ args.lent.now loop.t loop.store (answer_of loop.answer) loop.i loop.invariant.3 loop-test.true no_record (get_or args.records loop.i no_record) (at_take args.records _ loop.i no_record loop-test.true) (index_fits_lem (get_or args.records loop.i no_record) _ index_of.ensures index_of.type-inv) m.0 next3.given.0.1.0 m.2 m.3 _ (found_of loop.t next3.given.0.1.0 _ _ _ _ loop.invariant.4 owner.ensures c.find.ensures c.in-Missing.is) c.if-t-ge8.false) in
     (loop.invariant.0, loop.invariant.1, chunk_size _ _ _ _ _ _ _ _ _ x, x, c.identities-own-in-Missing.ensures)
 
 pub offset_bounds-t-p : goal.offset_bounds-t-p
@@ -277,7 +277,7 @@ decide-outcome-requires c =
     let p2 = c.p-in-At-1 in
     let kind = next3.given.0.1.0 in
     let p = p2.given.0.0 in
-    let r = get_or args.t2 loop.i no_record in
+    let r = get_or args.records loop.i no_record in
     let h = head_at loop.t p in
     let m = rw next3.given.1 at c.admit.ensures in
     let linked = loop.invariant.3.running.ready.linked in
@@ -300,14 +300,14 @@ returns-in-Refused-outcome c =
     let p2 = c.p-in-At-1 in
     let kind = next3.given.0.1.0 in
     let p = p2.given.0.0 in
-    let r = get_or args.t2 loop.i no_record in
+    let r = get_or args.records loop.i no_record in
     let h = head_at loop.t p in
     let m = rw next3.given.1 at c.admit.ensures in
     let linked = loop.invariant.3.running.ready.linked in
     let held = found_of loop.t kind _ _ _ _ loop.invariant.4 c.owner-identity.ensures c.find.ensures p2.given.1 in
     let below = at_below loop.t (owner_of kind) _ held in
-    runs_most args.state args.store.now args.t2 args.lent.now _ args.count _ _ c.at_most-n.ensures
-    (chunk_refused _ args.state args.store.now _ args.lent.now loop.t loop.store (answer_of loop.answer) loop.i loop.invariant.3 loop-test.true no_record r (at_take args.t2 _ loop.i no_record loop-test.true) (index_fits_lem r _ index_of.ensures index_of.type-inv) _
+    runs_most args.state args.store.now args.records args.lent.now _ args.count _ _ c.at_most-n.ensures
+    (chunk_refused _ args.state args.store.now _ args.lent.now loop.t loop.store (answer_of loop.answer) loop.i loop.invariant.3 loop-test.true no_record r (at_take args.records _ loop.i no_record loop-test.true) (index_fits_lem r _ index_of.ensures index_of.type-inv) _
     (stepped_held loop.t loop.store r args.lent.now m.0 kind m.2 m.3 p held ∙ nothing_read loop.t loop.store p kind r.lsn args.lent.now (omega (arith, below, linked.few)) linked.size _ m.1 _ _ (place_is h p kind r.body _ _ index_of.ensures m.2 c.look.ensures) (place_before h p kind r.body _ _ index_of.ensures m.2 c.look_before.ensures) _ (entry_refuses h _ _ kind _ c.in-Entry.is r.lsn _ args.lent.now c.decide-outcome.result c.decide-outcome.ensures _ c.in-Refused-outcome.is)) _ refl _ _ refl)
 
 pub offset_bounds-t-p-in-Entry : goal.offset_bounds-t-p-in-Entry
@@ -352,7 +352,7 @@ write_entry-change-requires c =
     let p2 = c.p-in-At-1 in
     let kind = next3.given.0.1.0 in
     let p = p2.given.0.0 in
-    let r = get_or args.t2 loop.i no_record in
+    let r = get_or args.records loop.i no_record in
     let h = head_at loop.t p in
     let m = rw next3.given.1 at c.admit.ensures in
     let linked = loop.invariant.3.running.ready.linked in
@@ -407,7 +407,7 @@ loop-i-preserved-in-Entry c =
     let p2 = c.p-in-At-1 in
     let kind = next3.given.0.1.0 in
     let p = p2.given.0.0 in
-    let r = get_or args.t2 loop.i no_record in
+    let r = get_or args.records loop.i no_record in
     let h = head_at loop.t p in
     let m = rw next3.given.1 at c.admit.ensures in
     let linked = loop.invariant.3.running.ready.linked in
@@ -417,7 +417,7 @@ loop-i-preserved-in-Entry c =
     let ys = c.write_entry-change.new.1.1.1.1.0 in
     let taken : Change = record { answer = d.answer; head = c.with_entry-after.result; entry = d.entry; dropped = d.dropped } in
     let made = entry_planned h _ _ kind _ c.in-Entry.is r.lsn _ args.lent.now c.decide-outcome.result c.decide-outcome.ensures d ys _ c.with_entry-after.result c.write_entry-change.ensures c.in_default.keys2 c.len_after-len.ensures c.with_entry-after.ensures in
-    let x = chunk_takes _ args.state args.store.now _ args.lent.now loop.t loop.store (answer_of loop.answer) loop.i loop.invariant.3 loop-test.true no_record r (at_take args.t2 _ loop.i no_record loop-test.true) (index_fits_lem r _ index_of.ensures index_of.type-inv) _
+    let x = chunk_takes _ args.state args.store.now _ args.lent.now loop.t loop.store (answer_of loop.answer) loop.i loop.invariant.3 loop-test.true no_record r (at_take args.records _ loop.i no_record loop-test.true) (index_fits_lem r _ index_of.ensures index_of.type-inv) _
     (stepped_held loop.t loop.store r args.lent.now m.0 kind m.2 m.3 p held ∙ settled_here loop.t loop.store p kind r.lsn args.lent.now _ _ (place_is h p kind r.body _ _ index_of.ensures m.2 c.look.ensures) (place_before h p kind r.body _ _ index_of.ensures m.2 c.look_before.ensures) taken ys made (c.write_entry-change.auto.1.1.1.1.0 ∙ lent_length loop.store p (omega (arith, below, linked.few)) linked.size) _ m.1 (entry_drops c.decide-outcome.result d ys h _ _ r.lsn _ args.lent.now c.write_entry-change.ensures))
     (entry_accepted c.decide-outcome.result d ys h _ _ r.lsn _ args.lent.now c.write_entry-change.ensures c.in_default.keys2) in
     (loop.invariant.0, omega (arith, loop-test.true), chunk_size _ _ _ _ _ _ _ _ _ x, x, owners_kept loop.t p _ taken ys _ _ kind r.lsn _ args.lent.now loop.invariant.4 made)
@@ -459,14 +459,14 @@ returns-in-Refused-decide_hard_state c =
     let p2 = c.p-in-At-1 in
     let kind = next3.given.0.1.0 in
     let p = p2.given.0.0 in
-    let r = get_or args.t2 loop.i no_record in
+    let r = get_or args.records loop.i no_record in
     let h = head_at loop.t p in
     let m = rw next3.given.1 at c.admit.ensures in
     let linked = loop.invariant.3.running.ready.linked in
     let held = found_of loop.t kind _ _ _ _ loop.invariant.4 c.owner-identity.ensures c.find.ensures p2.given.1 in
     let below = at_below loop.t (owner_of kind) _ held in
-    runs_most args.state args.store.now args.t2 args.lent.now _ args.count _ _ c.at_most-n.ensures
-    (chunk_refused _ args.state args.store.now _ args.lent.now loop.t loop.store (answer_of loop.answer) loop.i loop.invariant.3 loop-test.true no_record r (at_take args.t2 _ loop.i no_record loop-test.true) (index_fits_lem r _ index_of.ensures index_of.type-inv) _
+    runs_most args.state args.store.now args.records args.lent.now _ args.count _ _ c.at_most-n.ensures
+    (chunk_refused _ args.state args.store.now _ args.lent.now loop.t loop.store (answer_of loop.answer) loop.i loop.invariant.3 loop-test.true no_record r (at_take args.records _ loop.i no_record loop-test.true) (index_fits_lem r _ index_of.ensures index_of.type-inv) _
     (stepped_held loop.t loop.store r args.lent.now m.0 kind m.2 m.3 p held ∙ nothing loop.t loop.store p kind r.lsn args.lent.now (omega (arith, below, linked.few)) linked.size _ m.1 _ (hard_refuses h _ _ kind _ c.in-HardState.is r.lsn _ args.lent.now _ (sym c.decide_hard_state.ensures ∙ ap checked_of c.in-Refused-decide_hard_state.is))) _ refl _ _ refl)
 
 pub offset_bounds-t-p-in-HardState-2 : goal.offset_bounds-t-p-in-HardState-2
@@ -512,13 +512,13 @@ loop-i-preserved-in-HardState c =
     let p2 = c.p-in-At-1 in
     let kind = next3.given.0.1.0 in
     let p = p2.given.0.0 in
-    let r = get_or args.t2 loop.i no_record in
+    let r = get_or args.records loop.i no_record in
     let h = head_at loop.t p in
     let m = rw next3.given.1 at c.admit.ensures in
     let linked = loop.invariant.3.running.ready.linked in
     let held = found_of loop.t kind _ _ _ _ loop.invariant.4 c.owner-identity.ensures c.find.ensures p2.given.1 in
     let below = at_below loop.t (owner_of kind) _ held in
-    let x = chunk_takes _ args.state args.store.now _ args.lent.now loop.t loop.store (answer_of loop.answer) loop.i loop.invariant.3 loop-test.true no_record r (at_take args.t2 _ loop.i no_record loop-test.true) (index_fits_lem r _ index_of.ensures index_of.type-inv) _
+    let x = chunk_takes _ args.state args.store.now _ args.lent.now loop.t loop.store (answer_of loop.answer) loop.i loop.invariant.3 loop-test.true no_record r (at_take args.records _ loop.i no_record loop-test.true) (index_fits_lem r _ index_of.ensures index_of.type-inv) _
     (stepped_held loop.t loop.store r args.lent.now m.0 kind m.2 m.3 p held ∙ only_head loop.t loop.store p kind r.lsn args.lent.now (omega (arith, below, linked.few)) linked.size _ m.1 D.kept _ (hard_keeps h _ _ kind _ c.in-HardState.is r.lsn _ args.lent.now _ (sym c.decide_hard_state.ensures ∙ ap checked_of c.in_default-decide_hard_state.is) c.with_hard_state-after.ensures)) refl in
     (loop.invariant.0, omega (arith, loop-test.true), loop.invariant.2, x, loop.invariant.4 ∙ sym (owners_set loop.t.heads p _ (ap (λ (x : Header). x.identity) c.with_hard_state-after.ensures)))
 
@@ -636,7 +636,7 @@ install_snapshot-change-requires c =
     let p2 = c.p-in-At-1 in
     let kind = next3.given.0.1.0 in
     let p = p2.given.0.0 in
-    let r = get_or args.t2 loop.i no_record in
+    let r = get_or args.records loop.i no_record in
     let h = head_at loop.t p in
     let m = rw next3.given.1 at c.admit.ensures in
     let linked = loop.invariant.3.running.ready.linked in
@@ -714,7 +714,7 @@ returns-in-Refused-answer c =
     let p2 = c.p-in-At-1 in
     let kind = next3.given.0.1.0 in
     let p = p2.given.0.0 in
-    let r = get_or args.t2 loop.i no_record in
+    let r = get_or args.records loop.i no_record in
     let h = head_at loop.t p in
     let m = rw next3.given.1 at c.admit.ensures in
     let linked = loop.invariant.3.running.ready.linked in
@@ -724,8 +724,8 @@ returns-in-Refused-answer c =
     let ys = c.install_snapshot-change.new.1.1.1.1.0 in
     let other = 64 * p + look_of h (index_of kind - 1) in
     let made = pointer_planned h _ (get_or loop.t.entries other no_entry) kind _ r.lsn _ args.lent.now d ys c.in-SnapshotPointer.is c.install_snapshot-change.ensures in
-    runs_most args.state args.store.now args.t2 args.lent.now _ args.count _ _ c.at_most-n.ensures
-    (chunk_refused _ args.state args.store.now _ args.lent.now loop.t loop.store (answer_of loop.answer) loop.i loop.invariant.3 loop-test.true no_record r (at_take args.t2 _ loop.i no_record loop-test.true) (index_fits_lem r _ index_of.ensures index_of.type-inv) _
+    runs_most args.state args.store.now args.records args.lent.now _ args.count _ _ c.at_most-n.ensures
+    (chunk_refused _ args.state args.store.now _ args.lent.now loop.t loop.store (answer_of loop.answer) loop.i loop.invariant.3 loop-test.true no_record r (at_take args.records _ loop.i no_record loop-test.true) (index_fits_lem r _ index_of.ensures index_of.type-inv) _
     (stepped_held loop.t loop.store r args.lent.now m.0 kind m.2 m.3 p held ∙ settled_here loop.t loop.store p kind r.lsn args.lent.now _ other (place_is h p kind r.body _ _ index_of.ensures m.2 c.look-in-SnapshotPointer.ensures) refl d ys made (c.install_snapshot-change.auto.1.1.1.1.0 ∙ lent_length loop.store p (omega (arith, below, linked.few)) linked.size) _ m.1 (refused_drops d ys h _ _ kind r.lsn _ args.lent.now _ made (ap answer_of c.in-Refused-answer.is))) _ (ap answer_of c.in-Refused-answer.is) _ _ (ran_answer _ _ _ _ _ c.in-Refused-answer.is))
 
 pub overflow_add-i-in-SnapshotPointer : goal.overflow_add-i-in-SnapshotPointer
@@ -742,7 +742,7 @@ loop-j-init c =
     let p2 = c.p-in-At-1 in
     let kind = next3.given.0.1.0 in
     let p = p2.given.0.0 in
-    let r = get_or args.t2 loop.i no_record in
+    let r = get_or args.records loop.i no_record in
     let h = head_at loop.t p in
     let linked = loop.invariant.3.running.ready.linked in
     let held = found_of loop.t kind _ _ _ _ loop.invariant.4 c.owner-identity.ensures c.find.ensures p2.given.1 in
@@ -768,7 +768,7 @@ loop-i-preserved-in-loop-j c =
     let p2 = c.p-in-At-1 in
     let kind = next3.given.0.1.0 in
     let p = p2.given.0.0 in
-    let r = get_or args.t2 loop.i no_record in
+    let r = get_or args.records loop.i no_record in
     let h = head_at loop.t p in
     let m = rw next3.given.1 at c.admit.ensures in
     let linked = loop.invariant.3.running.ready.linked in
@@ -779,7 +779,7 @@ loop-i-preserved-in-loop-j c =
     let other = 64 * p + look_of h (index_of kind - 1) in
     let made = pointer_planned h _ (get_or loop.t.entries other no_entry) kind _ r.lsn _ args.lent.now d ys c.in-SnapshotPointer.is c.install_snapshot-change.ensures in
     let loop2 = c.loop-j in
-    let x = chunk_takes _ args.state args.store.now _ args.lent.now loop.t loop.store (answer_of loop.answer) loop.i loop.invariant.3 loop-test.true no_record r (at_take args.t2 _ loop.i no_record loop-test.true) (index_fits_lem r _ index_of.ensures index_of.type-inv) _
+    let x = chunk_takes _ args.state args.store.now _ args.lent.now loop.t loop.store (answer_of loop.answer) loop.i loop.invariant.3 loop-test.true no_record r (at_take args.records _ loop.i no_record loop-test.true) (index_fits_lem r _ index_of.ensures index_of.type-inv) _
     (stepped_held loop.t loop.store r args.lent.now m.0 kind m.2 m.3 p held ∙ settled_moved loop.t loop.store p kind r.lsn args.lent.now _ other (place_is h p kind r.body _ _ index_of.ensures m.2 c.look-in-SnapshotPointer.ensures) refl d ys made (c.install_snapshot-change.auto.1.1.1.1.0 ∙ lent_length loop.store p (omega (arith, below, linked.few)) linked.size) _ m.1 c.if-change-gt0.true) (not_refused d.answer c.in_default-answer.keys2) in
     let all : loop2.j ≡ d.head.len = omega (arith, c.loop-j-test.false, loop2.invariant.0) in
     let moved = rw all at loop2.invariant.1 in
@@ -861,7 +861,7 @@ loop-i-preserved c =
     let p2 = c.p-in-At-1 in
     let kind = next3.given.0.1.0 in
     let p = p2.given.0.0 in
-    let r = get_or args.t2 loop.i no_record in
+    let r = get_or args.records loop.i no_record in
     let h = head_at loop.t p in
     let m = rw next3.given.1 at c.admit.ensures in
     let linked = loop.invariant.3.running.ready.linked in
@@ -871,7 +871,7 @@ loop-i-preserved c =
     let ys = c.install_snapshot-change.new.1.1.1.1.0 in
     let other = 64 * p + look_of h (index_of kind - 1) in
     let made = pointer_planned h _ (get_or loop.t.entries other no_entry) kind _ r.lsn _ args.lent.now d ys c.in-SnapshotPointer.is c.install_snapshot-change.ensures in
-    let x = chunk_takes _ args.state args.store.now _ args.lent.now loop.t loop.store (answer_of loop.answer) loop.i loop.invariant.3 loop-test.true no_record r (at_take args.t2 _ loop.i no_record loop-test.true) (index_fits_lem r _ index_of.ensures index_of.type-inv) _
+    let x = chunk_takes _ args.state args.store.now _ args.lent.now loop.t loop.store (answer_of loop.answer) loop.i loop.invariant.3 loop-test.true no_record r (at_take args.records _ loop.i no_record loop-test.true) (index_fits_lem r _ index_of.ensures index_of.type-inv) _
     (stepped_held loop.t loop.store r args.lent.now m.0 kind m.2 m.3 p held ∙ settled_here loop.t loop.store p kind r.lsn args.lent.now _ other (place_is h p kind r.body _ _ index_of.ensures m.2 c.look-in-SnapshotPointer.ensures) refl d ys made (c.install_snapshot-change.auto.1.1.1.1.0 ∙ lent_length loop.store p (omega (arith, below, linked.few)) linked.size) _ m.1 c.if-change-gt0.false) (not_refused d.answer c.in_default-answer.keys2) in
     (loop.invariant.0, omega (arith, loop-test.true), chunk_size _ _ _ _ _ _ _ _ _ x, x, owners_kept loop.t p _ d ys _ _ kind r.lsn _ args.lent.now loop.invariant.4 made)
 
@@ -879,4 +879,4 @@ pub returns : goal.returns
 returns c =
     let args = c.args in
     let args = c.args in
-    runs_most args.state args.store.now args.t2 args.lent.now _ args.count _ _ c.at_most-n.ensures (chunk_end _ _ _ _ _ _ _ _ _ c.loop-i.invariant.3 c.loop-i-test.false _ _ refl)
+    runs_most args.state args.store.now args.records args.lent.now _ args.count _ _ c.at_most-n.ensures (chunk_end _ _ _ _ _ _ _ _ _ c.loop-i.invariant.3 c.loop-i-test.false _ _ refl)
