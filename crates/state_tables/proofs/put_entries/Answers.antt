@@ -28,7 +28,7 @@ loop-q-preserved c =
       omega arith,
       more l.q _ (omega (arith, n, p)) (omega arith) l.invariant.1
           (rw (c.index_at.ensures, c.base-first.ensures) at c.put_entry-to.ensures),
-      c.put_entry-to.auto.0 ∙ l.invariant.2,
+      c.put_entry-to.auto.out ∙ l.invariant.2,
     )
 
 pub shape_of-out : goal.shape_of-out
