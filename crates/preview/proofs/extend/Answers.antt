@@ -22,7 +22,7 @@ pub take_entry-taken-requires : goal.take_entry-taken-requires
 take_entry-taken-requires c = run_takes c.args.entries.count c.args.identity c.args.entries c.args.lent.now c.args.preview c.args.block.now c.batch.t c.batch.block c.batch.answer c.batch.i c.batch.invariant c.batch-test.true c.record_at-r.result c.record_at-r.ensures c.check_entry.result c.check_entry.ensures c.in_default.is c.place_within-at.result (c.place_within-at.ensures ∙ ⊎_elim (λ w. spot_missing c.batch.t.head c.record_at-r.result.index c.loop-q.q w.left c.loop-q.invariant.0 c.loop-q.invariant.1) (λ w. spot_found c.batch.t.head c.record_at-r.result.index c.loop-q.q c.batch.invariant.sits.fits.short w.0.taken (sym w.1.ensures ∙ w.2.taken)) c.loop-q-test.branch)
 
 pub batch-preserved : goal.batch-preserved
-batch-preserved c = run_next c.args.entries.count c.args.identity c.args.entries c.args.lent.now c.args.preview c.args.block.now c.batch.t c.batch.block c.batch.answer c.batch.i c.batch.invariant c.batch-test.true c.record_at-r.result c.record_at-r.ensures c.check_entry.result c.check_entry.ensures c.in_default.is c.place_within-at.result (c.place_within-at.ensures ∙ ⊎_elim (λ w. spot_missing c.batch.t.head c.record_at-r.result.index c.loop-q.q w.left c.loop-q.invariant.0 c.loop-q.invariant.1) (λ w. spot_found c.batch.t.head c.record_at-r.result.index c.loop-q.q c.batch.invariant.sits.fits.short w.0.taken (sym w.1.ensures ∙ w.2.taken)) c.loop-q-test.branch) c.take_entry-taken.result _ c.take_entry-taken.ensures (omega (arith, c.record_at-r.type-inv)) c.in_default-outcome.is
+batch-preserved c = run_next c.args.entries.count c.args.identity c.args.entries c.args.lent.now c.args.preview c.args.block.now c.batch.t c.batch.block c.batch.answer c.batch.i c.batch.invariant c.batch-test.true c.record_at-r.result c.record_at-r.ensures c.check_entry.result c.check_entry.ensures c.in_default.is c.place_within-at.result (c.place_within-at.ensures ∙ ⊎_elim (λ w. spot_missing c.batch.t.head c.record_at-r.result.index c.loop-q.q w.left c.loop-q.invariant.0 c.loop-q.invariant.1) (λ w. spot_found c.batch.t.head c.record_at-r.result.index c.loop-q.q c.batch.invariant.sits.fits.short w.0.taken (sym w.1.ensures ∙ w.2.taken)) c.loop-q-test.branch) c.take_entry-taken.result _ c.take_entry-taken.ensures (omega (arith, c.record_at-r.type_inv)) c.in_default-outcome.is
 
 pub returns-after-batch : goal.returns-after-batch
 returns-after-batch c = run_end c.args.entries.count c.args.identity c.args.entries c.args.lent.now c.args.preview c.args.block.now c.batch.t c.batch.block c.batch.answer c.batch.i c.batch.invariant c.batch-test.false
