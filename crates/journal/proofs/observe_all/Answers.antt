@@ -1,32 +1,21 @@
 -- `journal::observe_all` reads and writes inside its buffers, and ends.
-use Rattle.std.proofs.Common.{◌≡◌, ◌-◌, ◌≤◌, length, refl, ◌∙◌, arith, rules}
+use Rattle.std.proofs.Common.{◌∙◌, arith, rules}
 use Rattle.journal.proofs.observe_all.Goals as goal
 
--- LEFT invariant-loop: 14 parameters, 16 wanted: ['buffer₀', 'most', 'commands', 'lent', 'lens', 'store₀', 't₀', 'w₀', 'done₀', 'buffer', 'store', 't', 'w', 'done'] ['source', 'buffer', 'most', 'commands', 'lent', 'lens', 'store', 't', 'w', 'done', 'source', 'buffer', 'store', 't', 'w', 'done']
--- LEFT decreases-loop: 14 parameters, 16 wanted: ['buffer₀', 'most', 'commands', 'lent', 'lens', 'store₀', 't₀', 'w₀', 'done₀', 'buffer', 'store', 't', 'w', 'done'] ['source', 'buffer', 'most', 'commands', 'lent', 'lens', 'store', 't', 'w', 'done', 'source', 'buffer', 'store', 't', 'w', 'done']
-pub loop-done-init : goal.loop-done-init
-loop-done-init c = (search rules, refl, refl)
-
 pub shape_of-buffer-in-Refused : goal.shape_of-buffer-in-Refused
-shape_of-buffer-in-Refused c = c.read_chunk-chunk.auto.0 ∙ c.loop-done.invariant.1
+shape_of-buffer-in-Refused c = c.read_chunk-chunk.auto.buffer ∙ c.loop-done.invariant.1
 
 pub shape_of-store-in-Refused : goal.shape_of-store-in-Refused
-shape_of-store-in-Refused c = c.observe_records-d.auto.1.1.1.1.0 ∙ c.loop-done.invariant.2
-
-pub returns-in-Refused : goal.returns-in-Refused
-returns-in-Refused c = tt
+shape_of-store-in-Refused c = c.observe_records-d.auto.store ∙ c.loop-done.invariant.2
 
 pub overflow_add-done : goal.overflow_add-done
 overflow_add-done c = record { fits = omega (arith, c.read_chunk-chunk.ensures.0, c.loop-done-test.true, c.ranges.most) }
 
 pub shape_of-buffer-then-chunk : goal.shape_of-buffer-then-chunk
-shape_of-buffer-then-chunk c = c.read_chunk-chunk.auto.0 ∙ c.loop-done.invariant.1
+shape_of-buffer-then-chunk c = c.read_chunk-chunk.auto.buffer ∙ c.loop-done.invariant.1
 
 pub shape_of-store-then-chunk : goal.shape_of-store-then-chunk
-shape_of-store-then-chunk c = c.observe_records-d.auto.1.1.1.1.0 ∙ c.loop-done.invariant.2
-
-pub returns-then-chunk : goal.returns-then-chunk
-returns-then-chunk c = tt
+shape_of-store-then-chunk c = c.observe_records-d.auto.store ∙ c.loop-done.invariant.2
 
 pub overflow_add-done-in-loop-done : goal.overflow_add-done-in-loop-done
 overflow_add-done-in-loop-done c = record { fits = omega (arith, c.read_chunk-chunk.ensures.0, c.loop-done-test.true, c.ranges.most) }
@@ -39,6 +28,3 @@ loop-done-smaller c =
 
 pub loop-done-preserved : goal.loop-done-preserved
 loop-done-preserved c = (omega (arith, c.read_chunk-chunk.ensures.0, c.loop-done-test.true), search rules, search rules)
-
-pub returns : goal.returns
-returns c = tt

@@ -1,11 +1,6 @@
 -- `journal::read_chunk` reads and writes inside its buffers, and ends.
-use Rattle.std.proofs.Common.{◌≡◌, ◌-◌, ◌≤◌, length, refl, true≢false, arith, rules}
+use Rattle.std.proofs.Common.{true≢false, arith, rules}
 use Rattle.journal.proofs.read_chunk.Goals as goal
-
--- LEFT invariant-loop: 12 parameters, 14 wanted: ['buffer₀', 'most', 'commands', 'lens', 'records₀', 'w₀', 'n', 'i₀', 'buffer', 'records', 'w', 'i'] ['source', 'buffer', 'most', 'commands', 'lens', 'records', 'w', 'n', 'i', 'source', 'buffer', 'records', 'w', 'i']
--- LEFT decreases-loop: 12 parameters, 14 wanted: ['buffer₀', 'most', 'commands', 'lens', 'records₀', 'w₀', 'n', 'i₀', 'buffer', 'records', 'w', 'i'] ['source', 'buffer', 'most', 'commands', 'lens', 'records', 'w', 'n', 'i', 'source', 'buffer', 'records', 'w', 'i']
-pub loop-i-init : goal.loop-i-init
-loop-i-init c = (search rules, refl)
 
 pub returns-in_default : goal.returns-in_default
 returns-in_default c =
