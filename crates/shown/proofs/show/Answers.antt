@@ -8,7 +8,7 @@ use borrow.Author.Rules.{rules}
 use Rattle.shown.proofs.show.Goals as goal
 
 pub returns-in_default : goal.returns-in_default
-returns-in_default c =
+returns-in_default c lent =
     let a = c.args in
     show_none a.own a.preview a.index c.place_of.result c.place_of.ensures (supplied a.index (entries_of a.entries lent)) c.in_default.is
 
@@ -23,7 +23,7 @@ bounds-preview-q c =
     search rules
 
 pub returns : goal.returns
-returns c =
+returns c lent =
     let a = c.args in
     
     show_held a.own a.preview a.index c.place_of.result c.place_of.ensures (supplied a.index (entries_of a.entries lent)) _
