@@ -1,7 +1,7 @@
 // The batch behind a journal, to the end of the input or to the first line that cannot be read.
 use batch_text::{BatchLine, Given, MaybeIdentity};
 use ids::{RaftGroupId, RaftReplicaIdentity, ReplicaId};
-use journal::input::{Taken, Window};
+use journal::input::{Source, Taken, Window};
 use journal::{Stop, input};
 use text::record::MaybeCount;
 
@@ -63,6 +63,7 @@ fn keep_show(shows: &mut [u64; 4096], at: usize, l: BatchLine) {
 
 // The lines from number `line` on. A proved loop has to end: turns are counted down from a number that no run uses up.
 fn read_lines(
+    source: &mut Source,
     buffer: &mut [u8],
     window: Window,
     line: u64,
@@ -75,7 +76,7 @@ fn read_lines(
     let mut number = line;
     let mut turns = u64::MAX;
     while turns > 0 {
-        let taken = input::next_line(buffer, w);
+        let taken = input::next_line(source, buffer, w);
         if !taken.found {
             break;
         }
@@ -103,6 +104,7 @@ fn read_lines(
 
 // Behind the line `finish`: whose batch it is, and its lines.
 fn read_owned(
+    source: &mut Source,
     buffer: &mut [u8],
     window: Window,
     line: u64,
@@ -111,12 +113,12 @@ fn read_owned(
     lens: &[u8],
     shows: &mut [u64; 4096],
 ) -> Asked {
-    let taken = input::next_line(buffer, window);
+    let taken = input::next_line(source, buffer, window);
     let MaybeIdentity::Some(identity) = identity_in(taken) else {
         return malformed(line);
     };
     let next = std::num::wrapping_add_u64(line, 1);
-    let lines = read_lines(buffer, taken.window, next, commands, lens, shows);
+    let lines = read_lines(source, buffer, taken.window, next, commands, lens, shows);
     let stop = lines.stop;
     let given = lines.given;
     Asked {
@@ -129,6 +131,7 @@ fn read_owned(
 
 // The lines behind a journal, of which the first has the number `line`.
 pub fn read_batch(
+    source: &mut Source,
     buffer: &mut [u8],
     window: Window,
     line: u64,
@@ -136,12 +139,13 @@ pub fn read_batch(
     lens: &[u8],
     shows: &mut [u64; 4096],
 ) -> Asked {
-    let taken = input::next_line(buffer, window);
+    let taken = input::next_line(source, buffer, window);
     let MaybeCount::Some(finish) = finish_in(taken) else {
         return malformed(line);
     };
     let next = std::num::wrapping_add_u64(line, 1);
     read_owned(
+        source,
         buffer,
         taken.window,
         next,

@@ -5,8 +5,9 @@
 
 use codec::{Checksum, RaftSnapshotPointerRecord, RaftWalRecord, RecordBody, WalRecord};
 use ids::{Lsn, RaftReplicaIdentity};
-use libc::{STDIN_FILENO, STDOUT_FILENO};
 use recovery::observing;
+use std::io;
+use std::io::Read;
 use storage::RecoveredRaftStorage;
 
 // The last index of each replica, and the command of its last entry.
@@ -216,9 +217,11 @@ fn summed(mode: u8, chunks: [Chunk; 16], rounds: u64, lent: &[u8], store: &mut [
     by_chunks(chunks, rounds, lent, store)
 }
 
-fn main() {
+fn main(rt: HostRuntime) -> io::Result<()> {
     let mut input = [0u8; 8];
-    let n = io::read_full(STDIN_FILENO, &mut input);
+    for (place, byte) in input.iter_mut().zip(rt.stdin().bytes()) {
+        *place = byte?;
+    }
     let mut lent = [0u8; 8192];
     let mut i: usize = 0;
     while i < 8192 {
@@ -230,6 +233,5 @@ fn main() {
     let mode = input[0];
     let rounds = bench_records::rounds_of(input[2]);
     let sum = summed(mode, chunks, rounds, &lent, &mut store);
-    io::print_decimal(STDOUT_FILENO, sum);
-    io::write_all(STDOUT_FILENO, b"\n");
+    rt.println(sum)
 }

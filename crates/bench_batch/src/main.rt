@@ -6,8 +6,9 @@
 use batches::{BatchEntries, RaftPersistenceBatch};
 use codec::{HardState, MaybeHardState, MaybePointer, RaftWalRecord, RecordBody, Vote, WalRecord};
 use ids::Lsn;
-use libc::{STDIN_FILENO, STDOUT_FILENO};
 use recovery::observing;
+use std::io;
+use std::io::Read;
 use storage::RecoveredRaftStorage;
 
 fn observed(
@@ -101,12 +102,13 @@ fn prepared(rounds: u64, lent: &[u8], store: &mut [u8]) -> u64 {
     sum
 }
 
-fn main() {
+fn main(rt: HostRuntime) -> io::Result<()> {
     let mut input = [0u8; 8];
-    let n = io::read_full(STDIN_FILENO, &mut input);
+    for (place, byte) in input.iter_mut().zip(rt.stdin().bytes()) {
+        *place = byte?;
+    }
     let lent = [90u8; 64];
     let mut store = [0u8; 32768];
     let sum = prepared(bench_records::rounds_of(input[0]), &lent, &mut store);
-    io::print_decimal(STDOUT_FILENO, sum);
-    io::write_all(STDOUT_FILENO, b"\n");
+    rt.println(sum)
 }

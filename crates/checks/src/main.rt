@@ -10,7 +10,8 @@ ghost use Rattle.std.specs.Prelude.{◌+◌, ◌≤◌, ◌<◌, ◌≡◌};
 use codec::{Checksum, HardState, MaybeHardState, MaybePointer, RaftSnapshotPointerRecord, Vote};
 use frontier::{NewProgress, RaftProgress};
 use ids::{Checked, RaftGroupId, RaftReplicaIdentity, Refusal, ReplicaId};
-use libc::{STDIN_FILENO, STDOUT_FILENO};
+use std::io;
+use std::io::{Read, Stdin};
 
 // One field of a line, read byte by byte: its length (65 for any longer), its first 8 bytes and the 8 after them, its value as a
 // decimal number and as hex digits.
@@ -511,37 +512,35 @@ fn answer(l: Line) -> Reply {
     Reply::Malformed
 }
 
-fn print(a: Reply) {
+fn print(rt: &impl Print, a: Reply) -> io::Result<()> {
     let Reply::Checked(checked) = a else {
-        io::write_all(STDOUT_FILENO, b"malformed\n");
-        return;
+        return rt.write_all(b"malformed\n");
     };
     let Checked::Refused(why) = checked else {
-        io::write_all(STDOUT_FILENO, b"ok\n");
-        return;
+        return rt.write_all(b"ok\n");
     };
-    io::write_all(STDOUT_FILENO, b"refused ");
-    io::print_decimal(STDOUT_FILENO, why.number());
-    io::write_all(STDOUT_FILENO, b"\n");
+    rt.write_all(b"refused ")?;
+    rt.print(why.number())?;
+    rt.write_all(b"\n")
 }
 
 // One more byte of standard input: a line that ends is answered.
-fn read_byte(l: Line, byte: u8) -> Line {
+fn read_byte(rt: &impl Print, l: Line, byte: u8) -> io::Result<Line> {
     if byte != b'\n' {
-        return push(l, byte);
+        return Ok(push(l, byte));
     }
-    print(answer(close_field(l)));
-    empty_line()
+    print(rt, answer(close_field(l)))?;
+    Ok(empty_line())
 }
 
-fn read_bytes(l: Line, bytes: &[u8]) -> Line {
+fn read_bytes(rt: &impl Print, l: Line, bytes: &[u8]) -> io::Result<Line> {
     let mut t = l;
     let mut i: usize = 0;
     while i < bytes.len() {
-        t = read_byte(t, bytes[i]);
+        t = read_byte(rt, t, bytes[i])?;
         i = i + 1;
     }
-    t
+    Ok(t)
 }
 
 #[derive(Clone, Copy)]
@@ -551,35 +550,34 @@ struct More {
 }
 
 // One read of standard input.
-fn read_some(l: Line) -> More {
-    let mut buf = io::buffer();
-    let n = io::read_full(STDIN_FILENO, &mut buf);
-    let line = read_bytes(l, &buf[..n]);
-    More {
-        line,
-        more: n == 4096,
-    }
+fn read_some(rt: &impl Print, stdin: Stdin, l: Line) -> io::Result<More> {
+    let mut buf = [0u8; 4096];
+    let mut from = stdin;
+    let n = from.read(&mut buf)?;
+    let line = read_bytes(rt, l, &buf[..n])?;
+    Ok(More { line, more: 0 < n })
 }
 
 // All of standard input but a last line without its end. A proved loop has to end, so turns are counted down from a number that
 // no run uses up.
-fn read_all() -> Line {
+fn read_all(rt: &impl Print, stdin: Stdin) -> io::Result<Line> {
     let mut line = empty_line();
     let mut turns = u64::MAX;
     while turns > 0 {
-        let next = read_some(line);
+        let next = read_some(rt, stdin, line)?;
         line = next.line;
         if !next.more {
-            return line;
+            return Ok(line);
         }
         turns = turns - 1;
     }
-    line
+    Ok(line)
 }
 
-fn main() {
-    let line = read_all();
+fn main(rt: HostRuntime) -> io::Result<()> {
+    let line = read_all(&rt, rt.stdin())?;
     if line.open {
-        print(answer(close_field(line)));
+        print(&rt, answer(close_field(line)))?;
     }
+    Ok(())
 }

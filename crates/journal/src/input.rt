@@ -1,11 +1,60 @@
 // Standard input in pieces: the next line, the next command.
 ghost use Rattle.io.specs.Counts.{IsPrefixLen};
 
-use libc::STDIN_FILENO;
+use std::io::{Read, Stdin};
 use text::command::{Command, MaybeLen};
 use text::line::Line;
 use text::record::MaybeRecord;
 use text::{command, line, record};
+
+// Standard input, and whether each read of it went well: one that fails counts as its end.
+#[derive(Drop)]
+pub struct Source {
+    stdin: Stdin,
+    outcome: std::io::Result<()>,
+}
+
+impl Source {
+    pub fn new(stdin: Stdin) -> Source {
+        Source {
+            stdin: stdin,
+            outcome: Ok(()),
+        }
+    }
+
+    // The error of the last read that failed.
+    pub fn outcome(&self) -> std::io::Result<()> {
+        self.outcome
+    }
+
+    // One read: how many bytes it put at the start of the buffer, none where it failed.
+    fn read_some(&mut self, buffer: &mut [u8]) -> usize
+        ensures { IsPrefixLen result buffer.new }
+    {
+        match self.stdin.read(buffer) {
+            Ok(n) => n,
+            Err(e) => {
+                self.outcome = Err(e);
+                0
+            }
+        }
+    }
+
+    // Reads until the buffer is full, the input ends or a read fails: how many bytes it put at its start.
+    fn read_full(&mut self, buffer: &mut [u8]) -> usize
+        ensures { IsPrefixLen result buffer.new }
+    {
+        let mut done: usize = 0;
+        while done < buffer.len() {
+            let n = self.read_some(&mut buffer[done..]);
+            if n == 0 {
+                break;
+            }
+            done = done + n;
+        }
+        done
+    }
+}
 
 // What was read and not yet used: the bytes of the buffer from `at` up to `len`.
 #[derive(Clone, Copy)]
@@ -44,14 +93,14 @@ fn used(w: Window, buffer: &[u8]) -> usize
     buffer.len()
 }
 
-fn refill(buffer: &mut [u8]) -> Window {
-    let n = io::read_full(STDIN_FILENO, buffer);
+fn refill(source: &mut Source, buffer: &mut [u8]) -> Window {
+    let n = source.read_full(buffer);
     Window { at: 0, len: n }
 }
 
 // The next line. The last one may lack its newline; nothing behind a newline is no line. A proved loop has to end, so turns are
 // counted down from a number that no run uses up.
-pub fn next_line(buffer: &mut [u8], window: Window) -> Taken {
+pub fn next_line(source: &mut Source, buffer: &mut [u8], window: Window) -> Taken {
     let mut line = Line::blank();
     let mut w = window;
     let mut found = false;
@@ -71,7 +120,7 @@ pub fn next_line(buffer: &mut [u8], window: Window) -> Taken {
         if w.at < n {
             found = true;
         }
-        w = refill(buffer);
+        w = refill(source, buffer);
         if w.len == 0 {
             break;
         }
@@ -100,7 +149,13 @@ fn record_in(taken: Taken, commands: usize, lens: &[u8]) -> MaybeRecord {
 }
 
 // The next line as a record. Most lines stand whole in the buffer; another is read again, in pieces.
-pub fn next_record(buffer: &mut [u8], window: Window, commands: usize, lens: &[u8]) -> TakenRecord {
+pub fn next_record(
+    source: &mut Source,
+    buffer: &mut [u8],
+    window: Window,
+    commands: usize,
+    lens: &[u8],
+) -> TakenRecord {
     let n = used(window, &buffer[..]);
     let r = line::read_line(&buffer[..n], window.at, Line::blank());
     if r.ended {
@@ -111,7 +166,7 @@ pub fn next_record(buffer: &mut [u8], window: Window, commands: usize, lens: &[u
             window: left,
         };
     }
-    let taken = next_line(buffer, window);
+    let taken = next_line(source, buffer, window);
     let left = taken.window;
     TakenRecord {
         record: record_in(taken, commands, lens),
@@ -129,6 +184,7 @@ fn len_of(found: bool, c: Command) -> MaybeLen {
 
 // The next line as a command: its bytes go to `lent`, from `place` on. An empty line is the empty command.
 pub fn next_command(
+    source: &mut Source,
     buffer: &mut [u8],
     window: Window,
     lent: &mut [u8],
@@ -152,7 +208,7 @@ pub fn next_command(
         if w.at < n {
             found = true;
         }
-        w = refill(buffer);
+        w = refill(source, buffer);
         if w.len == 0 {
             return TakenCommand {
                 len: len_of(found, c),

@@ -8,7 +8,7 @@ ghost use Rattle.std.specs.Prelude.{◌≡◌, ◌<◌, ◌≤◌, false};
 
 use codec::{RecordBody, WalRecord};
 use ids::Lsn;
-use input::{Taken, Window};
+use input::{Source, Taken, Window};
 use recovery::observing;
 use replay::Observation;
 use storage::RecoveredRaftStorage;
@@ -100,6 +100,7 @@ fn share(most: usize) -> usize
 
 // n command lines: their bytes go to `lent`, 65 for each, their lengths to `lens`.
 fn read_commands(
+    source: &mut Source,
     buffer: &mut [u8],
     window: Window,
     n: usize,
@@ -113,7 +114,7 @@ fn read_commands(
         if lens.len() <= i {
             break;
         }
-        let taken = input::next_command(buffer, w, lent, 65 * i);
+        let taken = input::next_command(source, buffer, w, lent, 65 * i);
         w = taken.window;
         let read = taken.len;
         let MaybeLen::Some(len) = read else {
@@ -127,6 +128,7 @@ fn read_commands(
 
 // The next records, at most 256 and at most `most`, up to a line that is missing or cannot be read.
 pub fn read_chunk(
+    source: &mut Source,
     buffer: &mut [u8],
     window: Window,
     most: usize,
@@ -144,7 +146,7 @@ pub fn read_chunk(
     let n = share(most);
     let mut i: usize = 0;
     while i < n {
-        let taken = input::next_record(buffer, w, commands, lens);
+        let taken = input::next_record(source, buffer, w, commands, lens);
         w = taken.window;
         let read = taken.record;
         let MaybeRecord::Some(r) = read else {
@@ -183,6 +185,7 @@ pub fn line_behind(headers: u64, commands: usize, records: usize) -> u64 {
 
 // `most` records.
 fn observe_all(
+    source: &mut Source,
     buffer: &mut [u8],
     window: Window,
     most: usize,
@@ -195,7 +198,7 @@ fn observe_all(
     let mut w = window;
     let mut done: usize = 0;
     while done < most {
-        let chunk = read_chunk(buffer, w, most - done, commands, lens);
+        let chunk = read_chunk(source, buffer, w, most - done, commands, lens);
         w = chunk.window;
         let records = chunk.records;
         let d = observing::observe_records(t, records, chunk.count, lent, store);
@@ -244,8 +247,8 @@ fn unread(line: u64, window: Window) -> Opened {
 }
 
 // Behind the command lines: how many records are given.
-fn open_records(buffer: &mut [u8], window: Window, commands: usize) -> Opened {
-    let taken = input::next_line(buffer, window);
+fn open_records(source: &mut Source, buffer: &mut [u8], window: Window, commands: usize) -> Opened {
+    let taken = input::next_line(source, buffer, window);
     let w = taken.window;
     let MaybeCount::Some(n) = records_in(taken) else {
         return unread(line_behind(1, commands, 0), w);
@@ -260,45 +263,53 @@ fn open_records(buffer: &mut [u8], window: Window, commands: usize) -> Opened {
 
 // Behind the first line: n commands, then how many records are given.
 fn open_commands(
+    source: &mut Source,
     buffer: &mut [u8],
     window: Window,
     n: usize,
     lent: &mut [u8],
     lens: &mut [u8],
 ) -> Opened {
-    let commands = read_commands(buffer, window, n, lent, lens);
+    let commands = read_commands(source, buffer, window, n, lent, lens);
     let left = commands.window;
     if commands.read < n {
         return unread(line_behind(1, commands.read, 0), left);
     }
-    open_records(buffer, left, n)
+    open_records(source, buffer, left, n)
 }
 
 // The lines before the records: the commands' bytes go to `lent`, 65 for each, their lengths to `lens`.
-pub fn open(buffer: &mut [u8], lent: &mut [u8], lens: &mut [u8]) -> Opened {
-    let taken = input::next_line(buffer, input::start());
+pub fn open(source: &mut Source, buffer: &mut [u8], lent: &mut [u8], lens: &mut [u8]) -> Opened {
+    let taken = input::next_line(source, buffer, input::start());
     let w = taken.window;
     let MaybeCount::Some(n) = commands_in(taken) else {
         return unread(line_behind(0, 0, 0), w);
     };
-    open_commands(buffer, w, n as usize, lent, lens)
+    open_commands(source, buffer, w, n as usize, lent, lens)
 }
 
 // Whether a line stands behind the last record: it is one too many.
-pub fn goes_on(buffer: &mut [u8], window: Window) -> bool {
-    let taken = input::next_line(buffer, window);
+pub fn goes_on(source: &mut Source, buffer: &mut [u8], window: Window) -> bool {
+    let taken = input::next_line(source, buffer, window);
     taken.found
 }
 
 // A journal: what stands behind its last record is left.
-pub fn recover(buffer: &mut [u8], lent: &mut [u8], lens: &mut [u8], store: &mut [u8]) -> Ended {
-    let opened = open(buffer, lent, lens);
+pub fn recover(
+    source: &mut Source,
+    buffer: &mut [u8],
+    lent: &mut [u8],
+    lens: &mut [u8],
+    store: &mut [u8],
+) -> Ended {
+    let opened = open(source, buffer, lent, lens);
     let w = opened.window;
     let stop = opened.stop;
     if let Stop::Malformed(line) = stop {
         return malformed(line, w);
     }
     observe_all(
+        source,
         buffer,
         w,
         opened.records,

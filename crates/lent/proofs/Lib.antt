@@ -1,5 +1,4 @@
 pub mod Commit
-pub mod Lending
 pub mod Listing
 pub mod Loading
 pub mod Prepares

@@ -65,10 +65,6 @@ module _ (s : RecoveredRaftStorage) (st : List ℕ) (o : Own) (es : List Recover
         ∙ ap (prepare_ran d b lent (beginning o.head (entries_in s o.place))) copied in
         ap (ran_of r) (sym (ap (λ (x : Ran). x.bytes) w)) ∙ w
 
--- The indices of a batch are machine numbers, as its array of them says.
-pub small_indices : (xs : List ℕ) (us : List Val) → shadow (each ℕ (UInt w64).own_val (map (λ (v : ℕ). v) xs) us) → (n : ℕ) → get_or xs n 0 ≤ u64_max
-small_indices xs us p n = let f = elem_fits_field w64 w64 xs us n p tt in omega (arith, f.fits)
-
 -- What stands at an own place can be tried.
 module _ {s : RecoveredRaftStorage} {st : List ℕ} {i : RaftReplicaIdentity} {o : Own} (w : Owns s st i o) where
   pub kept : Kept s st o

@@ -6,8 +6,6 @@ use mathlib.Core.Option.{none, some}
 use Prim.Native.Nat.{ℕ, ◌+◌, ◌-◌, ◌*◌, ◌<◌, ◌≤◌}
 use native.Mathlib.Omega.{arith}
 use lib.ListN.{length, get_or, set, take, drop}
-use types.Run.{OneOf, miss}
-use denote.Enum.Declared.{tag_of}
 use Rattle.definition.specs.Table.{first_of}
 use Rattle.definition.specs.Log as D
 use Rattle.definition.specs.Recovery.{refusal_of}
@@ -43,27 +41,27 @@ module _ (h : Header) (e b : RecoveredRaftLogEntry) (k : RaftWalRecord) (r : Raf
       ap (λ (x : RaftWalRecord). plan_of h e b x l cs lent) ek ∙ ap (λ (a : D.Answer). entry_plan a h e r l cs lent) (sym eo ∙ ap outcome_of ew)
 
   pub entry_planned : (d : Change) (ys : List ℕ) (n : ℕ) (h' : Header) → planned d ys ≡ entry_plan (outcome_of o) h e r l cs lent
-      → OneOf (0 ∷ 1 ∷ 2 ∷ []) (tag_of Rattle.view.specs.contracts.RaftLogReplayOutcome.the_type o) → n ≡ len_after (outcome_of o) h r.index → h' ≡ with_entry h n l
+      → ((w : Refusal) → o ≡ A.Refused w → ⊥) → n ≡ len_after (outcome_of o) h r.index → h' ≡ with_entry h n l
       → planned (record { answer = d.answer; head = h'; entry = d.entry; dropped = d.dropped }) ys ≡ plan_of h e b k l cs lent
   entry_planned d ys n h' ed kept en eh =
       let head : h' ≡ d.head = eh ∙ ap (λ (m : ℕ). with_entry h m l) en ∙ same o kept ∙ ap (λ (x : Plan). x.head) (sym ed) in
       ap (λ (x : Header). planned (record { answer = d.answer; head = x; entry = d.entry; dropped = d.dropped }) ys) head
       ∙ ed ∙ ap (λ (a : D.Answer). entry_plan a h e r l cs lent) eo ∙ ap (λ (x : RaftWalRecord). plan_of h e b x l cs lent) (sym ek)
     where
-      same : (o : RaftLogReplayOutcome) → OneOf (0 ∷ 1 ∷ 2 ∷ []) (tag_of Rattle.view.specs.contracts.RaftLogReplayOutcome.the_type o)
+      same : (o : RaftLogReplayOutcome) → ((w : Refusal) → o ≡ A.Refused w → ⊥)
           → with_entry h (len_after (outcome_of o) h r.index) l ≡ (entry_plan (outcome_of o) h e r l cs lent).head
       same A.Appended k = refl
       same A.IdempotentReplay k = refl
       same (A.ReplacedSuffix m) k = refl
-      same (A.Refused w) k = absurd (miss (0 ∷ 1 ∷ 2 ∷ []) 3 tt k)
+      same (A.Refused w) k = absurd (k w refl)
 
 -- It is no refusal, and drops nothing.
 pub entry_accepted : (o : RaftLogReplayOutcome) (d : Change) (ys : List ℕ) (h : Header) (e : RecoveredRaftLogEntry) (r : RaftLogEntryRecord) (l : Lsn) (cs lent : List ℕ)
-    → planned d ys ≡ entry_plan (outcome_of o) h e r l cs lent → OneOf (0 ∷ 1 ∷ 2 ∷ []) (tag_of Rattle.view.specs.contracts.RaftLogReplayOutcome.the_type o) → refusal_of (answer_of d.answer) ≡ none
+    → planned d ys ≡ entry_plan (outcome_of o) h e r l cs lent → ((w : Refusal) → o ≡ A.Refused w → ⊥) → refusal_of (answer_of d.answer) ≡ none
 entry_accepted A.Appended d ys h e r l cs lent ed k = ap (λ (x : Plan). refusal_of x.answer) ed
 entry_accepted A.IdempotentReplay d ys h e r l cs lent ed k = ap (λ (x : Plan). refusal_of x.answer) ed
 entry_accepted (A.ReplacedSuffix m) d ys h e r l cs lent ed k = ap (λ (x : Plan). refusal_of x.answer) ed
-entry_accepted (A.Refused w) d ys h e r l cs lent ed k = absurd (miss (0 ∷ 1 ∷ 2 ∷ []) 3 tt k)
+entry_accepted (A.Refused w) d ys h e r l cs lent ed k = absurd (k w refl)
 
 pub entry_drops : (o : RaftLogReplayOutcome) (d : Change) (ys : List ℕ) (h : Header) (e : RecoveredRaftLogEntry) (r : RaftLogEntryRecord) (l : Lsn) (cs lent : List ℕ)
     → planned d ys ≡ entry_plan (outcome_of o) h e r l cs lent → d.dropped ≤ 0

@@ -3,6 +3,7 @@
 use mathlib.Core.Path.{◌≡◌, refl, sym, ap, subst, ◌∙◌}
 use mathlib.Core.Bool.{Bool, true, false, true≢false}
 use mathlib.Core.Option.{Option, none, some}
+use Rattle.ids.specs.declared.Refusal.{Refusal}
 use Rattle.definition.specs.Records.{Identity, unfit, form_rows}
 use Rattle.definition.specs.Log as D
 use Rattle.ids.specs.declared.RaftReplicaIdentity.{RaftReplicaIdentity}
@@ -20,8 +21,6 @@ use Rattle.storage.proofs.Finding.{Told, found_told, found_among}
 use Rattle.routing.specs.Observe.{Stepped, Ran, only_scanned, moved_entries, written, plan_at, settled_at}
 use Rattle.routing.proofs.Stepped.{owner_is, Drops, plan_drops, plan_keeps}
 use mathlib.Core.List.{List, [], ◌∷◌, ◌++◌, append_assoc}
-use types.Run.{OneOf, miss}
-use denote.Enum.Declared.{tag_of}
 use Rattle.definition.specs.Recovery.{refusal_of}
 use Rattle.replay.specs.declared.Observation.{Observation}
 use Rattle.replay.specs.declared.Observation.TheVariants as O
@@ -238,13 +237,13 @@ pub back_length : (u : List ℕ) (p : ℕ) (ys : List ℕ) → p < 8 → length 
 back_length u p ys h l ly = ap length (store_is u p ys ly) ∙ length_splice u (4096 * p) ys (omega (arith, ly, l))
 
 -- An answer that is no refusal, by its tag.
-pub not_refused : (x : Observation) → OneOf (0 ∷ 1 ∷ 2 ∷ 3 ∷ 4 ∷ []) (tag_of Rattle.replay.specs.contracts.Observation.the_type x) → refusal_of (answer_of x) ≡ none
+pub not_refused : (x : Observation) → ((w : Refusal) → x ≡ O.Refused w → ⊥) → refusal_of (answer_of x) ≡ none
 not_refused O.Counted k = refl
 not_refused O.Appended k = refl
 not_refused O.IdempotentReplay k = refl
 not_refused (O.ReplacedSuffix r) k = refl
 not_refused O.Kept k = refl
-not_refused (O.Refused w) k = absurd (miss (0 ∷ 1 ∷ 2 ∷ 3 ∷ 4 ∷ []) 5 tt k)
+not_refused (O.Refused w) k = absurd (k w refl)
 
 -- The block that is lent is 4,096 bytes long.
 pub lent_length : (u : List ℕ) (p : ℕ) → p < 8 → length u ≡ 32768 → length (take (4096 * p + 4096 - 4096 * p) (drop (4096 * p) u)) ≡ 4096

@@ -11,6 +11,7 @@ mod text;
 mod trying;
 
 use recovery::observing;
+use std::io;
 use storage::RecoveredRaftStorage;
 
 // How many of 256 records a chunk takes that is said to have `count`.
@@ -21,34 +22,37 @@ fn taken_of(count: usize) -> usize {
     done.taken
 }
 
-fn chunk_size(count: usize) {
-    text::put(b"chunk");
-    text::number(count as u64);
-    text::put(b" taken");
-    text::number(taken_of(count) as u64);
-    text::put(b"\n");
+fn chunk_size(rt: &impl Print, count: usize) -> io::Result<()> {
+    text::put(rt, b"chunk")?;
+    text::number(rt, count as u64)?;
+    text::put(rt, b" taken")?;
+    text::number(rt, taken_of(count) as u64)?;
+    text::put(rt, b"\n")
 }
 
-fn chunk_sizes() {
-    chunk_size(0);
-    chunk_size(1);
-    chunk_size(255);
-    chunk_size(256);
-    chunk_size(257);
-    chunk_size(usize::MAX);
+fn chunk_sizes(rt: &impl Print) -> io::Result<()> {
+    chunk_size(rt, 0)?;
+    chunk_size(rt, 1)?;
+    chunk_size(rt, 255)?;
+    chunk_size(rt, 256)?;
+    chunk_size(rt, 257)?;
+    chunk_size(rt, usize::MAX)
 }
 
 // A small state with two replicas, and the odd and broken ones made from it.
-fn states_by_hand(lent: &[u8]) {
+fn states_by_hand(rt: &impl Print, lent: &[u8]) -> io::Result<()> {
     let mut store = [0u8; 32768];
     let s = RecoveredRaftStorage::fresh();
     let done = observing::observe_records(s, records::two_replicas(), 7, lent, &mut store);
     let state = done.state;
-    odd::all(state, &store);
-    broken::all(state, &store);
+    odd::all(rt, state, &store)?;
+    broken::all(rt, state, &store)
 }
 
-fn main() {
-    chunk_sizes();
-    states_by_hand(b"0123456789ABCDEFGHIJKLMNOPQRSTUVWXYZabcdefghijklmnopqrstuvwxyz-+*/.,:;!?");
+fn main(rt: HostRuntime) -> io::Result<()> {
+    chunk_sizes(&rt)?;
+    states_by_hand(
+        &rt,
+        b"0123456789ABCDEFGHIJKLMNOPQRSTUVWXYZabcdefghijklmnopqrstuvwxyz-+*/.,:;!?",
+    )
 }

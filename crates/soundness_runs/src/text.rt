@@ -1,41 +1,38 @@
 // Answers as text on standard output.
 use finishing::FinishAnswer;
-use libc::STDOUT_FILENO;
 use replay::Observation;
+use std::io;
 
-pub fn put(words: &[u8]) {
-    io::write_all(STDOUT_FILENO, words);
+pub fn put(rt: &impl Print, words: &[u8]) -> io::Result<()> {
+    rt.write_all(words)
 }
 
 // A space and a number.
-pub fn number(n: u64) {
-    put(b" ");
-    io::print_decimal(STDOUT_FILENO, n);
+pub fn number(rt: &impl Print, n: u64) -> io::Result<()> {
+    put(rt, b" ")?;
+    rt.print(n)
 }
 
-pub fn yes_or_no(b: bool) {
+pub fn yes_or_no(rt: &impl Print, b: bool) -> io::Result<()> {
     if b {
-        put(b" yes");
-        return;
+        return put(rt, b" yes");
     }
-    put(b" no");
+    put(rt, b" no")
 }
 
 // Of a record of no Raft kind.
-pub fn answer(a: Observation) {
+pub fn answer(rt: &impl Print, a: Observation) -> io::Result<()> {
     let Observation::Refused(why) = a else {
-        put(b" foreign");
-        return;
+        return put(rt, b" foreign");
     };
-    put(b" refused");
-    number(why.number());
+    put(rt, b" refused")?;
+    number(rt, why.number())
 }
 
-pub fn finish_answer(a: FinishAnswer) {
+pub fn finish_answer(rt: &impl Print, a: FinishAnswer) -> io::Result<()> {
     let FinishAnswer::Refused(why) = a else {
-        put(b" finished");
-        return;
+        return put(rt, b" finished");
     };
-    put(b" refused");
-    number(why.number());
+    put(rt, b" refused")?;
+    number(rt, why.number())
 }

@@ -3,6 +3,7 @@ use crate::{records, same, text};
 use finishing::FinishAnswer;
 use recovery::observing;
 use replay::Observation;
+use std::io;
 use storage::RecoveredRaftStorage;
 
 // Both answers, whether state and store stayed as they were, and whether they are sound.
@@ -70,14 +71,14 @@ fn try_both(s: RecoveredRaftStorage, store: &mut [u8], was: &[u8]) -> Tried {
     }
 }
 
-fn answers(name: &[u8], t: Tried) {
-    text::put(name);
-    text::put(b" observe");
+fn answers(rt: &impl Print, name: &[u8], t: Tried) -> io::Result<()> {
+    text::put(rt, name)?;
+    text::put(rt, b" observe")?;
     let observed = t.observed;
-    text::answer(observed);
-    text::put(b" finish");
+    text::answer(rt, observed)?;
+    text::put(rt, b" finish")?;
     let finished = t.finished;
-    text::finish_answer(finished);
+    text::finish_answer(rt, finished)
 }
 
 // The store's bytes at the front of another.
@@ -88,44 +89,54 @@ pub fn fill(copy: &mut [u8], store: &[u8]) {
     store::copy_in(copy, 0, store);
 }
 
-fn broken_line(name: &[u8], t: Tried) {
-    text::put(b"broken ");
-    answers(name, t);
-    text::put(b" kept");
-    text::yes_or_no(t.kept);
-    text::put(b" sound");
-    text::yes_or_no(t.sound);
-    text::put(b"\n");
+fn broken_line(rt: &impl Print, name: &[u8], t: Tried) -> io::Result<()> {
+    text::put(rt, b"broken ")?;
+    answers(rt, name, t)?;
+    text::put(rt, b" kept")?;
+    text::yes_or_no(rt, t.kept)?;
+    text::put(rt, b" sound")?;
+    text::yes_or_no(rt, t.sound)?;
+    text::put(rt, b"\n")
 }
 
 // A state that has to be refused by 1, with a copy of a store.
-pub fn broken(name: &[u8], s: RecoveredRaftStorage, store: &[u8]) {
+pub fn broken(
+    rt: &impl Print,
+    name: &[u8],
+    s: RecoveredRaftStorage,
+    store: &[u8],
+) -> io::Result<()> {
     let mut copy = [0u8; 32768];
     fill(&mut copy, store);
     let t = try_both(s, &mut copy, store);
-    broken_line(name, t);
+    broken_line(rt, name, t)
 }
 
 // The same with a store that lacks its last byte.
-pub fn broken_short(name: &[u8], s: RecoveredRaftStorage, store: &[u8]) {
+pub fn broken_short(
+    rt: &impl Print,
+    name: &[u8],
+    s: RecoveredRaftStorage,
+    store: &[u8],
+) -> io::Result<()> {
     let n: usize = 32767;
     if store.len() < n {
-        return;
+        return Ok(());
     }
     let mut copy = [0u8; 32768];
     fill(&mut copy, store);
     let t = try_both(s, &mut copy[0..n], &store[0..n]);
-    broken_line(name, t);
+    broken_line(rt, name, t)
 }
 
 // A state that is sound.
-pub fn odd(name: &[u8], s: RecoveredRaftStorage, store: &[u8]) {
+pub fn odd(rt: &impl Print, name: &[u8], s: RecoveredRaftStorage, store: &[u8]) -> io::Result<()> {
     let mut copy = [0u8; 32768];
     fill(&mut copy, store);
     let t = try_both(s, &mut copy, store);
-    text::put(b"odd ");
-    answers(name, t);
-    text::put(b" sound");
-    text::yes_or_no(t.sound);
-    text::put(b"\n");
+    text::put(rt, b"odd ")?;
+    answers(rt, name, t)?;
+    text::put(rt, b" sound")?;
+    text::yes_or_no(rt, t.sound)?;
+    text::put(rt, b"\n")
 }

@@ -4,8 +4,7 @@
 
 use codec::WalRecord;
 use journal::Stop;
-use journal::input::Window;
-use libc::STDOUT_FILENO;
+use journal::input::{Source, Window};
 use recovery::observing;
 use storage::RecoveredRaftStorage;
 
@@ -70,6 +69,7 @@ fn stopped(
 
 // `most` records; their lines go to `out`.
 fn observe_all(
+    source: &mut Source,
     buffer: &mut [u8],
     window: Window,
     most: usize,
@@ -84,7 +84,7 @@ fn observe_all(
     let mut end: usize = 0;
     let mut done: usize = 0;
     while done < most {
-        let chunk = journal::read_chunk(buffer, w, most - done, commands, lens);
+        let chunk = journal::read_chunk(source, buffer, w, most - done, commands, lens);
         w = chunk.window;
         if chunk.bad {
             let line = journal::line_behind(2, commands, done + chunk.count);
@@ -107,13 +107,14 @@ fn observe_all(
 
 // A journal; what stands behind its last record is left.
 fn observe(
+    source: &mut Source,
     buffer: &mut [u8],
     lent: &mut [u8],
     lens: &mut [u8],
     store: &mut [u8],
     out: &mut [u8; 217088],
 ) -> Steps {
-    let opened = journal::open(buffer, lent, lens);
+    let opened = journal::open(source, buffer, lent, lens);
     let w = opened.window;
     let stop = opened.stop;
     if let Stop::Malformed(line) = stop {
@@ -126,6 +127,7 @@ fn observe(
         );
     }
     observe_all(
+        source,
         buffer,
         w,
         opened.records,
@@ -137,51 +139,67 @@ fn observe(
     )
 }
 
-fn print_malformed(line: u64) {
+fn print_malformed(rt: &impl Print, line: u64) -> std::io::Result<()> {
     let mut out = [0u8; 65536];
     let n = tables::write_malformed(line, &mut out);
-    io::write_all(STDOUT_FILENO, &out[..n]);
+    rt.write_all(&out[..n])
 }
 
-fn print_state(state: RecoveredRaftStorage, store: &[u8]) {
+fn print_state(rt: &impl Print, state: RecoveredRaftStorage, store: &[u8]) -> std::io::Result<()> {
     let mut out = [0u8; 131072];
     let n = state_tables::write_state(state, store, &mut out);
-    io::write_all(STDOUT_FILENO, &out[..n]);
+    rt.write_all(&out[..n])
 }
 
 // The state, and the same when it is finished.
-fn print_states(state: RecoveredRaftStorage, store: &[u8]) {
-    print_state(state, store);
-    io::write_all(STDOUT_FILENO, b"finished\n");
+fn print_states(rt: &impl Print, state: RecoveredRaftStorage, store: &[u8]) -> std::io::Result<()> {
+    print_state(rt, state, store)?;
+    rt.write_all(b"finished\n")?;
     let done = finishing::finish(state, store);
     let last = done.state;
-    print_state(last, store);
+    print_state(rt, last, store)
 }
 
 // A line behind the last record is one too many.
-fn print(buffer: &mut [u8], steps: Steps, store: &[u8], out: &[u8; 217088]) {
+fn print(
+    rt: &impl Print,
+    source: &mut Source,
+    buffer: &mut [u8],
+    steps: Steps,
+    store: &[u8],
+    out: &[u8; 217088],
+) -> std::io::Result<()> {
     let stop = steps.stop;
     if let Stop::Malformed(line) = stop {
-        print_malformed(line);
-        return;
+        source.outcome()?;
+        return print_malformed(rt, line);
     }
     let left = steps.window;
-    if journal::goes_on(buffer, left) {
-        print_malformed(steps.line);
-        return;
+    let more = journal::goes_on(source, buffer, left);
+    source.outcome()?;
+    if more {
+        return print_malformed(rt, steps.line);
     }
     let state = steps.state;
-    io::write_all(STDOUT_FILENO, shown::part(out, 0, steps.end));
-    print_states(state, store);
+    rt.write_all(shown::part(out, 0, steps.end))?;
+    print_states(rt, state, store)
 }
 
 // A record's line has at most 53 bytes, and a journal at most 4,096 records.
-fn main() {
+fn main(rt: HostRuntime) -> std::io::Result<()> {
+    let mut source = Source::new(rt.stdin());
     let mut buffer = io::large_buffer();
     let mut lent = [0u8; 16640];
     let mut lens = [0u8; 256];
     let mut store = [0u8; 32768];
     let mut out = [0u8; 217088];
-    let steps = observe(&mut buffer, &mut lent, &mut lens, &mut store, &mut out);
-    print(&mut buffer, steps, &store, &out);
+    let steps = observe(
+        &mut source,
+        &mut buffer,
+        &mut lent,
+        &mut lens,
+        &mut store,
+        &mut out,
+    );
+    print(&rt, &mut source, &mut buffer, steps, &store, &out)
 }

@@ -14,7 +14,7 @@ use Rattle.definition.specs.Records as D
 use Rattle.codec.specs.declared.Vote.TheVariants as O
 use Rattle.codec.specs.declared.WalRecord.{WalRecord}
 use Rattle.codec.specs.Records.{record_of, vote_of, payload_of}
-use Rattle.text.specs.Text.{u32_max, is_number, value, is_hex, is_checksum, checksum, nth, is_letter, is_owned, version, foreign_record, vote, hard_state_record, command, change, changed, payload, entry_of, entry_record, pointer_record, first, record_fields, record_line}
+use Rattle.text.specs.Text.{u32_max, is_number, value, is_hex, is_checksum, nth, is_letter, is_owned, version, foreign_record, vote, hard_state_record, command, change, changed, payload, entry_of, entry_record, pointer_record, first, record_fields, record_line}
 use Rattle.text.specs.Line.{blank_line, fed}
 use Rattle.text.specs.Record.{field_at, number_field, version_field, letter_field, sum_field, version_of, owned_line, foreign_line, foreign_record_of, vote_on, hard_state_line, hard_state_record_of, command_at, change_on, payload_on, entry_line, entry_record_of, entry_with, pointer_line, pointer_record_of, line_record, maybe_record_of, commands_in, Lent}
 use Rattle.text.specs.declared.field.Field.{Field}

@@ -11,7 +11,7 @@ use Rattle.definition.specs.Table.{◌=?◌, ◌≠?◌, ◌<?◌, ◌≤?◌, R
 use Rattle.definition.specs.Records.{Identity, LogEntry, same_payload, Kind, entry, hard_state, pointer}
 use Rattle.definition.specs.Log as D
 use Rattle.definition.specs.Recovery.{judged, settled}
-use Rattle.definition.proofs.Laws.{none_some}
+use Rattle.definition.proofs.Laws.{none_some, first_under}
 use Rattle.codec.specs.declared.HardState.{HardState}
 use Rattle.codec.specs.declared.RaftSnapshotPointerRecord.{RaftSnapshotPointerRecord}
 use Rattle.codec.specs.Records.{hard_state_of, pointer_of}
@@ -68,10 +68,13 @@ module _ (h : Header) (es : List RecoveredRaftLogEntry) (cs : List ℕ) (f : Fit
     held_rows_lem o term same p q r = rw (not_empty e.index o p, p, q, before) (go (term =? e.term) refl)
       where
         go : (b : Bool) → (term =? e.term) ≡ b →
-            first_of ((26 when b && not (same_payload o.payload e.payload)) ∷ (27 when not b && e.index ≤? h.committed_index) ∷ (31 when not b && e.term <? prior) ∷ [])
+            first_of (
+              (26 when b && not (same_payload o.payload e.payload)) ∷
+              (27 when not b && e.index ≤? h.committed_index) ∷ (28 when false) ∷ (29 when false) ∷ (30 when false) ∷ (31 when not b && e.term <? prior) ∷ (32 when false) ∷ []
+            )
             ≡ first_of ((26 when b && not same) ∷ (27 when not b && e.index ≤? h.committed_index) ∷ (31 when not b && e.term <? prior) ∷ [])
-        go true z = rw (r (eqb-true term e.term z))
-        go false z = refl
+        go true z = rw (r (eqb-true term e.term z)) (first_under 26 (not same) _ _ refl)
+        go false z = first_under 27 (e.index ≤? h.committed_index) _ _ (first_under 31 (e.term <? prior) _ _ refl)
 
     pub replay_rows_lem : first_of (D.replay_rows e log) ≡ first_of (replay_rows_of h old prior e.index e.term)
     replay_rows_lem = go old (D.at log e.index) refl tells

@@ -23,7 +23,7 @@ loop-i-preserved c =
     let l = c.loop-i in (
       omega arith,
       more l.i _ (omega (arith, c.requires)) (omega arith) l.invariant.1 c.put_pair-to.ensures,
-      c.put_pair-to.auto.0 ∙ l.invariant.2,
+      c.put_pair-to.auto.out ∙ l.invariant.2,
     )
 
 pub shape_of-out : goal.shape_of-out

@@ -11,7 +11,7 @@ use borrow.Author.Rules.{rules}
 use Rattle.batch_tables.proofs.put_records.Given as goal
 
 abbrev pub invariant-loop-i : goal.invariant-loop-i
-invariant-loop-i l = (l.i ≤ l.count) × Wrote l.initial.out 0 (lines_to l.i (λ l.i. record_text (get_or l.records l.i no_record).body (commands_in l.commands l.lens l.lent) l.lent)) (256 * l.i) l.to l.out × (length l.out ≡ length l.initial.out)
+invariant-loop-i l = (l.i ≤ l.count) × Wrote l.initial.out 0 (lines_to l.i (λ i. record_text (get_or l.records i no_record).body (commands_in l.commands l.lens l.lent) l.lent)) (256 * l.i) l.to l.out × (length l.out ≡ length l.initial.out)
 
 abbrev pub decreases-loop-i : goal.decreases-loop-i
 decreases-loop-i l = l.count - l.i

@@ -17,5 +17,5 @@ put_command-requires c =
 pub returns : goal.returns
 returns c =
     printed {n = 65536} (omega arith)
-    (said (shown_row _ (source_word c.args.of-batch) (take 64 c.args.bytes.now)) (omega arith)
+    (said (shown_row _ (source_word c.args.of_batch) (take 64 c.args.bytes.now)) (omega arith)
     (then (omega arith) (then (omega arith) (then (omega arith) c.put_bytes-a.ensures c.put_number-b.ensures) c.put_source-c.ensures) (rw c.part.ensures at c.put_command.ensures)))

@@ -16,14 +16,14 @@ pub finish_all-next-requires : goal.finish_all-next-requires
 finish_all-next-requires c =
     let a = c.args in
     let g = c.well_formed in
-    let eight : length a.state.heads ≡ 8 = sym (length-map a.state.heads (Rattle.view.specs.contracts.Header.the_type).to) ∙ g.0.1.1.0.1.0.1 in
-    let all : length a.state.entries ≡ 512 = sym (length-map a.state.entries (Rattle.view.specs.contracts.RecoveredRaftLogEntry.the_type).to) ∙ g.0.1.1.1.0.1.0.1 in
+    let eight : length a.state.heads ≡ 8 = search rules in
+    let all : length a.state.entries ≡ 512 = search rules in
     (test_sound a.state a.store.now eight all (sym c.is_sound.ensures ∙ c.if-not-is_sound.false)).limits
 
 pub returns : goal.returns
 returns c =
     let a = c.args in
     let g = c.well_formed in
-    let eight : length a.state.heads ≡ 8 = sym (length-map a.state.heads (Rattle.view.specs.contracts.Header.the_type).to) ∙ g.0.1.1.0.1.0.1 in
-    let all : length a.state.entries ≡ 512 = sym (length-map a.state.entries (Rattle.view.specs.contracts.RecoveredRaftLogEntry.the_type).to) ∙ g.0.1.1.1.0.1.0.1 in
+    let eight : length a.state.heads ≡ 8 = search rules in
+    let all : length a.state.entries ≡ 512 = search rules in
     finishes_sound a.state a.store.now _ eight all (sym c.is_sound.ensures ∙ c.if-not-is_sound.false) (simp c.finish_all-next.ensures)

@@ -12,8 +12,8 @@ use Rattle.finishing.proofs.finish_all.Goals as goal
 pub loop-j-init : goal.loop-j-init
 loop-j-init c =
     let s = c.args.state in
-    let l : length s.heads ≡ 8 = sym (length-map s.heads (Rattle.view.specs.contracts.Header.the_type).to) ∙ c.well_formed.0.1.1.0.1.0.1 in
-    let n : length s.entries ≡ 512 = sym (length-map s.entries (Rattle.view.specs.contracts.RecoveredRaftLogEntry.the_type).to) ∙ c.well_formed.0.1.1.1.0.1.0.1 in
+    let l : length s.heads ≡ 8 = search rules in
+    let n : length s.entries ≡ 512 = search rules in
     (omega arith, c.requires.few, finishing_start s l c.requires, n)
 
 pub loop-q-init : goal.loop-q-init

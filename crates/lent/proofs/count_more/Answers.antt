@@ -1,6 +1,5 @@
 -- `count_more` meets its contract.
 use borrow.Author.Tests.{lt-ltb, le-ltb}
-use borrow.Author.Rules.{rules}
 use Rattle.lent.proofs.count_more.Goals as goal
 
 pub returns-then-b-lt18446744073709551615 : goal.returns-then-b-lt18446744073709551615

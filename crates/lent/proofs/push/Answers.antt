@@ -1,6 +1,5 @@
 -- `push` meets its contract.
 use borrow.Author.Tests.{le-leb, lt-leb}
-use borrow.Author.Rules.{rules}
 use Rattle.lent.proofs.push.Goals as goal
 
 pub returns-then-at-ge-MAX_BATCH_ENTRIES : goal.returns-then-at-ge-MAX_BATCH_ENTRIES

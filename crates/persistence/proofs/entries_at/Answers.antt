@@ -13,7 +13,7 @@ use Rattle.persistence.proofs.entries_at.Goals as goal
 pub loop-q-init : goal.loop-q-init
 loop-q-init c =
     let a = c.args in
-    let l : length a.t1.entries ≡ 512 = sym (length-map a.t1.entries (Rattle.view.specs.contracts.RecoveredRaftLogEntry.the_type).to) ∙ c.well_formed.0.1.1.1.0.1.0.1 in (
+    let l : length a.state.entries ≡ 512 = search rules in (
       search rules,
       c.requires,
       l,
@@ -26,18 +26,18 @@ loop-q-preserved c =
     let a = c.args in
     let l = c.loop-q in
     let t = c.loop-q-test.true in
-    let own : length (entries_in a.t1 a.p) ≡ 64 = length_part (64 * a.p) 64 a.t1.entries (omega (arith, l.invariant.1, l.invariant.2)) in (
+    let own : length (entries_in a.state a.p) ≡ 64 = length_part (64 * a.p) 64 a.state.entries (omega (arith, l.invariant.1, l.invariant.2)) in (
       search rules,
       l.invariant.1,
       l.invariant.2,
       length-set l.es l.q _ ∙ l.invariant.3,
-      fill_turn (entries_in a.t1 a.p) l.es l.q no_entry _ (omega (arith, l.invariant.3)) (omega (arith, own)) (sym (get_d_part (64 * a.p) 64 a.t1.entries l.q no_entry t)) l.invariant.4,
+      fill_turn (entries_in a.state a.p) l.es l.q no_entry _ (omega (arith, l.invariant.3)) (omega (arith, own)) (sym (get_d_part (64 * a.p) 64 a.state.entries l.q no_entry t)) l.invariant.4,
     )
 
 pub returns : goal.returns
 returns c =
     let a = c.args in
     let l = c.loop-q in
-    let own : length (entries_in a.t1 a.p) ≡ 64 = length_part (64 * a.p) 64 a.t1.entries (omega (arith, l.invariant.1, l.invariant.2)) in
+    let own : length (entries_in a.state a.p) ≡ 64 = length_part (64 * a.p) 64 a.state.entries (omega (arith, l.invariant.1, l.invariant.2)) in
     let e : l.q ≡ 64 = omega arith in
-    filled_all (entries_in a.t1 a.p) l.es 64 (omega (arith, l.invariant.3)) (omega (arith, own)) (rw e at l.invariant.4)
+    filled_all (entries_in a.state a.p) l.es 64 (omega (arith, l.invariant.3)) (omega (arith, own)) (rw e at l.invariant.4)

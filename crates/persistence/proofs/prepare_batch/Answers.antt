@@ -1,8 +1,11 @@
 -- `prepare_batch` meets its contract.
-use borrow.Author.Tests.{not-true, not-false}
+use Prim.Native.Nat.{ℕ, ◌≤◌}
+use native.Mathlib.Omega.{arith}
+use lib.ListN.{get_or}
+use Rattle.definition.specs.Table.{u64_max}
 use Rattle.readers.proofs.Answers.{few_held}
 use Rattle.readers.proofs.Owns.{owns}
-use Rattle.persistence.proofs.Tried.{kept, tried_few, small_indices}
+use Rattle.persistence.proofs.Tried.{kept, tried_few}
 use Rattle.persistence.proofs.Answered.{answers_unsound, answers_refused, answers_ready, told_refused}
 use borrow.Author.Rules.{rules}
 use Rattle.persistence.proofs.prepare_batch.Goals as goal
@@ -24,7 +27,7 @@ pub returns-in-Refused : goal.returns-in-Refused
 returns-in-Refused c =
     let a = c.args in
     let w = owns c.passes.ensures c.if-not-passes.false c.own_of-own.ensures in
-    let small = small_indices a.batch.entries.index c.well_formed.1.1.1.0.1.1.1.0.1.1.1.0.0 c.well_formed.1.1.1.0.1.1.1.0.1.1.1.0.1.1 in
+    let small : (n : ℕ) → get_or a.batch.entries.index n 0 ≤ u64_max = λ n. search rules in
     answers_refused a.batch a.lent.now w small _ (told_refused _ _ _ c.try_batch-tried.ensures c.in-Refused.is) c.refused-in-Refused.ensures
 
 pub records_of-requires : goal.records_of-requires
@@ -37,5 +40,5 @@ returns c =
     let a = c.args in
     let w = owns c.passes.ensures c.if-not-passes.false c.own_of-own.ensures in
     let q = told_refused _ _ _ c.try_batch-tried.ensures c.in_default.is in
-    let small = small_indices a.batch.entries.index c.well_formed.1.1.1.0.1.1.1.0.1.1.1.0.0 c.well_formed.1.1.1.0.1.1.1.0.1.1.1.0.1.1 in
+    let small : (n : ℕ) → get_or a.batch.entries.index n 0 ≤ u64_max = λ n. search rules in
     answers_ready a.batch a.lent.now w small q (tried_few a.state a.store.now a.identity a.batch a.lent.now _ q) c.records_of.ensures

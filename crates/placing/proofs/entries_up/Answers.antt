@@ -12,7 +12,7 @@ use Rattle.placing.proofs.entries_up.Goals as goal
 pub loop-j-init : goal.loop-j-init
 loop-j-init c =
     let s = c.args in
-    let l : length s.state.entries ≡ 512 = sym (length-map s.state.entries (Rattle.view.specs.contracts.RecoveredRaftLogEntry.the_type).to) ∙ c.well_formed.0.1.1.1.0.1.0.1 in
+    let l : length s.state.entries ≡ 512 = search rules in
     (search rules, ap (with_entries s.state) (up_none s.state.entries s.at s.from s.n), l)
 
 -- src/lib.rt:77:5

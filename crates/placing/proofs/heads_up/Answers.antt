@@ -12,7 +12,7 @@ use Rattle.placing.proofs.heads_up.Goals as goal
 pub loop-j-init : goal.loop-j-init
 loop-j-init c =
     let s = c.args in
-    let l : length s.state.heads ≡ 8 = sym (length-map s.state.heads (Rattle.view.specs.contracts.Header.the_type).to) ∙ c.well_formed.0.1.1.0.1.0.1 in
+    let l : length s.state.heads ≡ 8 = search rules in
     (search rules, ap (with_heads s.state) (up_none s.state.heads (s.p + 1) s.p s.n), l)
 
 -- src/lib.rt:62:5

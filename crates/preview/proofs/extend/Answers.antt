@@ -1,16 +1,15 @@
-use mathlib.Core.Logic.{⊎_elim}
+-- `extend` meets its contract.
 use native.Mathlib.Omega.{arith}
-use Prim.Native.Nat.{ℕ, ◌≤◌, ◌<◌, ◌-◌}
-use mathlib.Core.Path.{◌≡◌, refl, sym, ap, ◌∙◌}
-use mathlib.Core.Bool.{Bool, true, false}
+use mathlib.Core.Path.{◌≡◌, sym, ◌∙◌}
 use borrow.Author.Rules.{rules}
 use borrow.Author.Count.{below_more}
-use Rattle.preview.specs.Preview.{holds_at}
-use Rattle.preview.proofs.Running.{Running, spot_found, spot_missing, run_start, run_end, run_formed, run_takes, run_refused, run_next}
+use Rattle.preview.specs.Preview.{spot_of}
+use Rattle.preview.proofs.Running.{spot_found, spot_missing, run_start, run_end, run_formed, run_takes, run_refused, run_next}
 use Rattle.preview.proofs.extend.Goals as goal
+use Rattle.preview.proofs.extend.Goals.{else-loop-q-test, then-loop-q-test+then-holds}
 
 pub batch-init : goal.batch-init
-batch-init c = let a = c.args in run_start a.entries.count a.identity a.entries a.lent.now a.preview a.block.now c.requires.0 c.requires.1
+batch-init c = run_start c.args.entries.count c.args.identity c.args.entries c.args.lent.now c.args.preview c.args.block.now c.requires.0 c.requires.1
 
 pub loop-q-init : goal.loop-q-init
 loop-q-init c = (search rules, λ k l. absurd (omega arith))
@@ -19,16 +18,54 @@ pub loop-q-preserved : goal.loop-q-preserved
 loop-q-preserved c = (search rules, below_more _ _ c.loop-q.invariant.1 (sym c.holds.ensures ∙ c.if-holds.false))
 
 pub take_entry-taken-requires : goal.take_entry-taken-requires
-take_entry-taken-requires c = run_takes c.args.entries.count c.args.identity c.args.entries c.args.lent.now c.args.preview c.args.block.now c.batch.t c.batch.block c.batch.answer c.batch.i c.batch.invariant c.batch-test.true c.record_at-r.result c.record_at-r.ensures c.check_entry.result c.check_entry.ensures c.in_default.is c.place_within-at.result (c.place_within-at.ensures ∙ ⊎_elim (λ w. spot_missing c.batch.t.head c.record_at-r.result.index c.loop-q.q w.left c.loop-q.invariant.0 c.loop-q.invariant.1) (λ w. spot_found c.batch.t.head c.record_at-r.result.index c.loop-q.q c.batch.invariant.sits.fits.short w.0.taken (sym w.1.ensures ∙ w.2.taken)) c.loop-q-test.branch)
+take_entry-taken-requires c =
+    let h = c.batch.t.head in
+    let x = c.record_at-r.result.index in
+    let spot : c.place_within-at.result ≡ spot_of h x =
+    c.place_within-at.ensures
+    ∙ (elim c.loop-q-test.branch [
+      | else-loop-q-test w ↦ spot_missing h x c.loop-q.q w.loop-q-test.false c.loop-q.invariant.0 c.loop-q.invariant.1
+      | then-loop-q-test+then-holds w ↦ spot_found h x c.loop-q.q c.batch.invariant.sits.fits.short w.loop-q-test.true (sym w.holds.ensures ∙ w.if-holds.true)
+    ])
+    in
+    run_takes c.args.entries.count c.args.identity c.args.entries c.args.lent.now c.args.preview c.args.block.now c.batch.t c.batch.block c.batch.answer-1 c.batch.i c.batch.invariant
+    c.batch-test.true c.record_at-r.result c.record_at-r.ensures c.check_entry.result c.check_entry.ensures c.in_default.is c.place_within-at.result spot
 
 pub batch-preserved : goal.batch-preserved
-batch-preserved c = run_next c.args.entries.count c.args.identity c.args.entries c.args.lent.now c.args.preview c.args.block.now c.batch.t c.batch.block c.batch.answer c.batch.i c.batch.invariant c.batch-test.true c.record_at-r.result c.record_at-r.ensures c.check_entry.result c.check_entry.ensures c.in_default.is c.place_within-at.result (c.place_within-at.ensures ∙ ⊎_elim (λ w. spot_missing c.batch.t.head c.record_at-r.result.index c.loop-q.q w.left c.loop-q.invariant.0 c.loop-q.invariant.1) (λ w. spot_found c.batch.t.head c.record_at-r.result.index c.loop-q.q c.batch.invariant.sits.fits.short w.0.taken (sym w.1.ensures ∙ w.2.taken)) c.loop-q-test.branch) c.take_entry-taken.result _ c.take_entry-taken.ensures (omega (arith, c.record_at-r.type-inv)) c.in_default-outcome.is
+batch-preserved c =
+    let h = c.batch.t.head in
+    let x = c.record_at-r.result.index in
+    let spot : c.place_within-at.result ≡ spot_of h x =
+    c.place_within-at.ensures
+    ∙ (elim c.loop-q-test.branch [
+      | else-loop-q-test w ↦ spot_missing h x c.loop-q.q w.loop-q-test.false c.loop-q.invariant.0 c.loop-q.invariant.1
+      | then-loop-q-test+then-holds w ↦ spot_found h x c.loop-q.q c.batch.invariant.sits.fits.short w.loop-q-test.true (sym w.holds.ensures ∙ w.if-holds.true)
+    ])
+    in
+    run_next c.args.entries.count c.args.identity c.args.entries c.args.lent.now c.args.preview c.args.block.now c.batch.t c.batch.block c.batch.answer-1 c.batch.i c.batch.invariant
+    c.batch-test.true c.record_at-r.result c.record_at-r.ensures c.check_entry.result c.check_entry.ensures c.in_default.is c.place_within-at.result spot
+    c.take_entry-taken.result _ c.take_entry-taken.ensures (omega (arith, c.record_at-r.type_inv)) c.in_default-outcome.is
 
 pub returns-after-batch : goal.returns-after-batch
-returns-after-batch c = run_end c.args.entries.count c.args.identity c.args.entries c.args.lent.now c.args.preview c.args.block.now c.batch.t c.batch.block c.batch.answer c.batch.i c.batch.invariant c.batch-test.false
+returns-after-batch c =
+    run_end c.args.entries.count c.args.identity c.args.entries c.args.lent.now c.args.preview c.args.block.now c.batch.t c.batch.block c.batch.answer-1 c.batch.i c.batch.invariant c.batch-test.false
 
 pub returns-in-Refused : goal.returns-in-Refused
-returns-in-Refused c = run_formed c.args.entries.count c.args.identity c.args.entries c.args.lent.now c.args.preview c.args.block.now c.batch.t c.batch.block c.batch.answer c.batch.i c.batch.invariant c.batch-test.true c.record_at-r.result c.record_at-r.ensures c.check_entry.result c.check_entry.ensures _ c.in-Refused.is
+returns-in-Refused c =
+    run_formed c.args.entries.count c.args.identity c.args.entries c.args.lent.now c.args.preview c.args.block.now c.batch.t c.batch.block c.batch.answer-1 c.batch.i c.batch.invariant
+    c.batch-test.true c.record_at-r.result c.record_at-r.ensures c.check_entry.result c.check_entry.ensures _ c.in-Refused.is
 
 pub returns-in-Refused-outcome : goal.returns-in-Refused-outcome
-returns-in-Refused-outcome c = run_refused c.args.entries.count c.args.identity c.args.entries c.args.lent.now c.args.preview c.args.block.now c.batch.t c.batch.block c.batch.answer c.batch.i c.batch.invariant c.batch-test.true c.record_at-r.result c.record_at-r.ensures c.check_entry.result c.check_entry.ensures c.in_default.is c.place_within-at.result (c.place_within-at.ensures ∙ ⊎_elim (λ w. spot_missing c.batch.t.head c.record_at-r.result.index c.loop-q.q w.left c.loop-q.invariant.0 c.loop-q.invariant.1) (λ w. spot_found c.batch.t.head c.record_at-r.result.index c.loop-q.q c.batch.invariant.sits.fits.short w.0.taken (sym w.1.ensures ∙ w.2.taken)) c.loop-q-test.branch) c.take_entry-taken.result _ c.take_entry-taken.ensures _ c.in-Refused-outcome.is
+returns-in-Refused-outcome c =
+    let h = c.batch.t.head in
+    let x = c.record_at-r.result.index in
+    let spot : c.place_within-at.result ≡ spot_of h x =
+    c.place_within-at.ensures
+    ∙ (elim c.loop-q-test.branch [
+      | else-loop-q-test w ↦ spot_missing h x c.loop-q.q w.loop-q-test.false c.loop-q.invariant.0 c.loop-q.invariant.1
+      | then-loop-q-test+then-holds w ↦ spot_found h x c.loop-q.q c.batch.invariant.sits.fits.short w.loop-q-test.true (sym w.holds.ensures ∙ w.if-holds.true)
+    ])
+    in
+    run_refused c.args.entries.count c.args.identity c.args.entries c.args.lent.now c.args.preview c.args.block.now c.batch.t c.batch.block c.batch.answer-1 c.batch.i c.batch.invariant
+    c.batch-test.true c.record_at-r.result c.record_at-r.ensures c.check_entry.result c.check_entry.ensures c.in_default.is c.place_within-at.result spot
+    c.take_entry-taken.result _ c.take_entry-taken.ensures _ c.in-Refused-outcome.is

@@ -1,12 +1,9 @@
-use mathlib.Core.Logic.{⊎_elim}
-use native.Mathlib.Omega.{arith}
+-- `extend`: no place before q is that of the entry's index; i entries of the batch were taken.
 use Prim.Native.Nat.{ℕ, ◌≤◌, ◌<◌, ◌-◌}
-use mathlib.Core.Path.{◌≡◌, refl, sym, ap, ◌∙◌}
-use mathlib.Core.Bool.{Bool, true, false}
-use borrow.Author.Rules.{rules}
-use borrow.Author.Count.{below_more}
+use mathlib.Core.Path.{◌≡◌}
+use mathlib.Core.Bool.{false}
 use Rattle.preview.specs.Preview.{holds_at}
-use Rattle.preview.proofs.Running.{Running, spot_found, spot_missing, run_start, run_end, run_formed, run_takes, run_refused, run_next}
+use Rattle.preview.proofs.Running.{Running}
 use Rattle.preview.proofs.extend.Given as goal
 
 abbrev pub invariant-loop-q : goal.invariant-loop-q

@@ -1,4 +1,3 @@
-use borrow.Author.Rules.{rules}
 use Rattle.preview.proofs.refusal_in.Goals as goal
 
 pub returns-in-Refused : goal.returns-in-Refused

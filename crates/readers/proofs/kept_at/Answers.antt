@@ -9,4 +9,4 @@ use Rattle.readers.proofs.kept_at.Goals as goal
 pub returns : goal.returns
 returns c =
     let a = c.args in
-    sym (get_d_part (64 * a.p) 64 a.t1.entries a.q no_entry c.requires.1)
+    sym (get_d_part (64 * a.p) 64 a.state.entries a.q no_entry c.requires.1)

@@ -10,6 +10,6 @@ returns c =
     let g = c.well_formed in
     record {
       test = c.is_sound.ensures;
-      eight = sym (length-map a.state.heads (Rattle.view.specs.contracts.Header.the_type).to) ∙ g.0.1.1.0.1.0.1;
-      all = sym (length-map a.state.entries (Rattle.view.specs.contracts.RecoveredRaftLogEntry.the_type).to) ∙ g.0.1.1.1.0.1.0.1;
+      eight = search rules;
+      all = search rules;
     }

@@ -1,9 +1,11 @@
 -- `previewed_at` meets its contract.
-use borrow.Author.Tests.{not-true, not-false}
+use Prim.Native.Nat.{ℕ, ◌≤◌}
+use lib.ListN.{get_or}
+use Rattle.definition.specs.Table.{u64_max}
 use Rattle.readers.proofs.Answers.{few_held}
 use Rattle.readers.proofs.Owns.{owns}
 use Rattle.persistence.proofs.Answered.{told_refused}
-use Rattle.persistence.proofs.Tried.{small_indices, kept, tried_few}
+use Rattle.persistence.proofs.Tried.{kept, tried_few}
 use Rattle.shown.proofs.Answers.{shows_unsound, shows_refused, shows_ready}
 use borrow.Author.Rules.{rules}
 use Rattle.shown.proofs.previewed_at.Goals as goal
@@ -24,7 +26,7 @@ pub returns-in-Refused : goal.returns-in-Refused
 returns-in-Refused c =
     let a = c.args in
     let w = owns c.passes.ensures c.if-not-passes.false c.own_of-own.ensures in
-    let small = small_indices a.batch.entries.index c.well_formed.1.1.1.0.1.1.1.0.1.1.1.0.0 c.well_formed.1.1.1.0.1.1.1.0.1.1.1.0.1.1 in
+    let small : (n : ℕ) → get_or a.batch.entries.index n 0 ≤ u64_max = λ n. search rules in
     shows_refused a.state a.store.now a.identity a.batch a.lent.now a.index _ w small _ c.try_batch-tried.ensures _ c.in-Refused.is
 
 pub show-requires : goal.show-requires
@@ -39,5 +41,5 @@ pub returns : goal.returns
 returns c =
     let a = c.args in
     let w = owns c.passes.ensures c.if-not-passes.false c.own_of-own.ensures in
-    let small = small_indices a.batch.entries.index c.well_formed.1.1.1.0.1.1.1.0.1.1.1.0.0 c.well_formed.1.1.1.0.1.1.1.0.1.1.1.0.1.1 in
+    let small : (n : ℕ) → get_or a.batch.entries.index n 0 ≤ u64_max = λ n. search rules in
     shows_ready a.state a.store.now a.identity a.batch a.lent.now a.index _ w small c.try_batch-tried.result c.try_batch-tried.ensures c.in_default.is c.show.result (c.show.ensures a.lent.now)

@@ -11,9 +11,10 @@ use Rattle.store.proofs.Flag.{flag_set, flag_kept}
 use Rattle.soundness.specs.Sound.{heads_rise}
 use Rattle.soundness.proofs.Step.{heads_left, heads_begin, heads_step, heads_end}
 use Rattle.soundness.proofs.heads_rise.Goals as goal
+use Rattle.soundness.proofs.heads_rise.Goals.{then-not-precedes, else-not-precedes}
 
 pub loop-i-init : goal.loop-i-init
-loop-i-init c = (omega arith, heads_begin c.args.n c.args.t2)
+loop-i-init c = (omega arith, heads_begin c.args.n c.args.heads)
 
 pub overflow_add-i : goal.overflow_add-i
 overflow_add-i c = omega arith
@@ -22,7 +23,7 @@ pub offset_bounds-heads-i : goal.offset_bounds-heads-i
 offset_bounds-heads-i c = omega arith
 
 pub bounds-heads-i : goal.bounds-heads-i
-bounds-heads-i c = let e : length c.args.t2 ≡ 8 = search rules in omega arith
+bounds-heads-i c = let e : length c.args.heads ≡ 8 = search rules in omega arith
 
 pub overflow_add-next : goal.overflow_add-next
 overflow_add-next c = omega arith
@@ -31,7 +32,7 @@ pub offset_bounds-heads-i-in-loop-i : goal.offset_bounds-heads-i-in-loop-i
 offset_bounds-heads-i-in-loop-i c = omega arith
 
 pub bounds-heads-i-in-loop-i : goal.bounds-heads-i-in-loop-i
-bounds-heads-i-in-loop-i c = let e : length c.args.t2 ≡ 8 = search rules in omega arith
+bounds-heads-i-in-loop-i c = let e : length c.args.heads ≡ 8 = search rules in omega arith
 
 pub overflow_add-i-in-loop-i : goal.overflow_add-i-in-loop-i
 overflow_add-i-in-loop-i c = omega arith
@@ -43,16 +44,16 @@ pub loop-i-preserved : goal.loop-i-preserved
 loop-i-preserved c =
     let l = c.loop-i in
     let s = c.args in
-    let walk = heads_step s.n s.t2 l.i c.loop-i-test.true in (
+    let walk = heads_step s.n s.heads l.i c.loop-i-test.true in (
       omega arith,
-      l.invariant.1 ∙ ⊎_elim
-          (λ w. rw w.1 (flag_set l.bad _ _ walk (sym c.precedes.ensures ∙ not-true _ w.0.taken)))
-          (λ w. rw w.1 (flag_kept l.bad _ _ walk (sym c.precedes.ensures ∙ not-false _ w.0.left)))
-          c.if-not-precedes.branch,
+      l.invariant.1 ∙ elim c.if-not-precedes.branch [
+        then-not-precedes w ↦ rw w.bad-is (flag_set l.bad _ _ walk (sym c.precedes.ensures ∙ w.if-not-precedes.true))
+        | else-not-precedes w ↦ rw w.bad-is (flag_kept l.bad _ _ walk (sym c.precedes.ensures ∙ w.if-not-precedes.false))
+      ],
     )
 
 pub returns : goal.returns
 returns c =
     let l = c.loop-i in
     let s = c.args in
-    sym (l.invariant.1 ∙ rw (heads_end s.n s.t2 l.i (omega arith)) (and-true (not l.bad)))
+    sym (l.invariant.1 ∙ rw (heads_end s.n s.heads l.i (omega arith)) (and-true (not l.bad)))

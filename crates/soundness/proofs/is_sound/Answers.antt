@@ -15,20 +15,8 @@ use Rattle.storage.specs.declared.RecoveredRaftStorage.{RecoveredRaftStorage}
 use Rattle.soundness.specs.Sound.{replicas_ok, sound_clauses, sound_test}
 use Rattle.clauses.proofs.Laws.{tail_is}
 use Rattle.soundness.proofs.Step.{kept, replicas_left, replicas_begin, replicas_end, walked_short, block_left, head_turn, entry_turn, block_turn}
+use Rattle.soundness.proofs.is_sound.Invariants.{last_of, left, within}
 use Rattle.soundness.proofs.is_sound.Goals as goal
-
--- LEFT helper
-abbrev last_of : RecoveredRaftStorage → Option ℕ
-last_of s = lsn_of s.scan.last_scanned_lsn
-
--- LEFT helper
--- What is asked of the replicas from p on, and of the entries and block of replica p from entry q on, of n.
-abbrev left : RecoveredRaftStorage → List ℕ → ℕ → Bool
-left s st p = replicas_left (last_of s) s.held s.heads s.entries st p
-
--- LEFT helper
-abbrev within : RecoveredRaftStorage → List ℕ → ℕ → ℕ → ℕ → Bool
-within s st p n q = block_left (last_of s) s.heads s.entries st p n q
 
 pub returns-then-store-ne32768 : goal.returns-then-store-ne32768
 unfolding sound_clauses
@@ -47,8 +35,8 @@ unfolding sound_clauses
 loop-p-init c =
     let s = c.args in
     let rise = c.heads_rise-good.result in
-    let front : sound_test s.t1 s.store.now ≡ (rise && replicas_ok (last_of s.t1) s.t1.held s.t1.heads s.t1.entries s.store.now) = rw (eq-eqb _ _ c.if-store-ne32768.false, le-leb _ _ c.if-state-gt8.false, lt-ltb _ _ c.if-scan-ge18446744073709551615.false, c.heads_rise-good.ensures, and-true) in
-    (omega arith, front ∙ ap (λ (b : Bool). rise && b) (replicas_begin (last_of s.t1) s.t1.held s.t1.heads s.t1.entries s.store.now))
+    let front : sound_test s.state s.store.now ≡ (rise && replicas_ok (last_of s.state) s.state.held s.state.heads s.state.entries s.store.now) = rw (eq-eqb _ _ c.if-store-ne32768.false, le-leb _ _ c.if-state-gt8.false, lt-ltb _ _ c.if-scan-ge18446744073709551615.false, c.heads_rise-good.ensures, and-true) in
+    (omega arith, front ∙ ap (λ (b : Bool). rise && b) (replicas_begin (last_of s.state) s.state.held s.state.heads s.state.entries s.store.now))
 
 pub offset_bounds-heads-p : goal.offset_bounds-heads-p
 offset_bounds-heads-p c = omega arith
@@ -63,9 +51,9 @@ pub loop-q-init : goal.loop-q-init
 loop-q-init c =
     let l = c.loop-p in
     let s = c.args in
-    let turn = head_turn (last_of s.t1) s.t1.heads s.t1.entries s.store.now l.p s.t1.held c.loop-p-test.true _ _ c.head_ok-ok.ensures c.walked-n.ensures in (
+    let turn = head_turn (last_of s.state) s.state.heads s.state.entries s.store.now l.p s.state.held c.loop-p-test.true _ _ c.head_ok-ok.ensures c.walked-n.ensures in (
       omega arith,
-      walked_short (last_of s.t1) _ _ _ c.head_ok-ok.ensures c.walked-n.ensures,
+      walked_short (last_of s.state) _ _ _ c.head_ok-ok.ensures c.walked-n.ensures,
       omega arith,
       kept l.good _ _ l.invariant.1 turn refl c.both-good.ensures,
     )
@@ -112,9 +100,9 @@ loop-q-preserved c =
     let l = c.loop-q in
     let s = c.args in
     let n = c.walked-n.result in
-    let v = left s.t1 s.store.now (p + 1) in
-    let turn = entry_turn (last_of s.t1) s.t1.heads s.t1.entries s.store.now p n l.q v c.loop-q-test.true l.invariant.1 (omega arith) in
-    (omega arith, l.invariant.1, omega arith, kept l.good _ _ {w = within s.t1 s.store.now p n l.q && v} l.invariant.3 turn c.entry_ok-well.ensures c.both-good-in-loop-q.ensures)
+    let v = left s.state s.store.now (p + 1) in
+    let turn = entry_turn (last_of s.state) s.state.heads s.state.entries s.store.now p n l.q v c.loop-q-test.true l.invariant.1 (omega arith) in
+    (omega arith, l.invariant.1, omega arith, kept l.good _ _ {w = within s.state s.store.now p n l.q && v} l.invariant.3 turn c.entry_ok-well.ensures c.both-good-in-loop-q.ensures)
 
 pub overflow_mul-n : goal.overflow_mul-n
 overflow_mul-n c = omega arith
@@ -146,9 +134,9 @@ loop-p-preserved c =
     let l = c.loop-q in
     let s = c.args in
     let n = c.walked-n.result in
-    let v = left s.t1 s.store.now (p + 1) in
-    let turn = block_turn (last_of s.t1) s.t1.heads s.t1.entries s.store.now p n l.q v (omega arith) l.invariant.1 (omega arith) in
-    (omega arith, kept l.good _ _ {w = within s.t1 s.store.now p n l.q && v} l.invariant.3 turn c.is_zero-empty.ensures c.both-good-in-loop-p.ensures)
+    let v = left s.state s.store.now (p + 1) in
+    let turn = block_turn (last_of s.state) s.state.heads s.state.entries s.store.now p n l.q v (omega arith) l.invariant.1 (omega arith) in
+    (omega arith, kept l.good _ _ {w = within s.state s.store.now p n l.q && v} l.invariant.3 turn c.is_zero-empty.ensures c.both-good-in-loop-p.ensures)
 
 pub overflow_mul-state : goal.overflow_mul-state
 overflow_mul-state c = omega arith
@@ -170,6 +158,6 @@ returns c =
     c.both.ensures
     ∙ ap (λ (b : Bool). l.good && b)
     (c.is_zero-rest.ensures
-    ∙ ap all_zero (tail_is s.store.now (4096 * s.t1.held) 32768 size)
-    ∙ sym (replicas_end (last_of s.t1) s.t1.held s.t1.heads s.t1.entries s.store.now l.p (omega arith)))
+    ∙ ap all_zero (tail_is s.store.now (4096 * s.state.held) 32768 size)
+    ∙ sym (replicas_end (last_of s.state) s.state.held s.state.heads s.state.entries s.store.now l.p (omega arith)))
     ∙ sym l.invariant.1

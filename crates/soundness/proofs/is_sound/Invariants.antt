@@ -17,6 +17,16 @@ use Rattle.clauses.proofs.Laws.{tail_is}
 use Rattle.soundness.proofs.Step.{kept, replicas_left, replicas_begin, replicas_end, walked_short, block_left, head_turn, entry_turn, block_turn}
 use Rattle.soundness.proofs.is_sound.Given as goal
 
+abbrev pub last_of : RecoveredRaftStorage → Option ℕ
+last_of s = lsn_of s.scan.last_scanned_lsn
+
+-- What is asked of the replicas from p on, and of the entries and block of replica p from entry q on, of n.
+abbrev pub left : RecoveredRaftStorage → List ℕ → ℕ → Bool
+left s st p = replicas_left (last_of s) s.held s.heads s.entries st p
+
+abbrev pub within : RecoveredRaftStorage → List ℕ → ℕ → ℕ → ℕ → Bool
+within s st p n q = block_left (last_of s) s.heads s.entries st p n q
+
 abbrev pub invariant-loop-q : goal.invariant-loop-q
 invariant-loop-q l =
     (l.p + 1 ≤ l.state.held) × (l.n ≤ 64) × (l.q ≤ l.n) × (sound_test l.state l.store ≡ (l.good && (within l.state l.store l.p l.n l.q && left l.state l.store (l.p + 1))))

@@ -10,12 +10,12 @@ use Rattle.state_tables.proofs.put_command.Goals as goal
 pub put_hex-b-requires : goal.put_hex-b-requires
 put_hex-b-requires c =
     let l = cell_short c.args.len c.at_most.ensures (drop (64 * c.args.k) c.args.store.now) c.part-bytes.ensures in
-    omega (arith, l, c.put_bytes-a.ensures.next, c.put_bytes-a.auto.0, c.requires)
+    omega (arith, l, c.put_bytes-a.ensures.next, c.put_bytes-a.auto.out, c.requires)
 
 pub put_bytes-requires : goal.put_bytes-requires
 put_bytes-requires c =
     let l = cell_short c.args.len c.at_most.ensures (drop (64 * c.args.k) c.args.store.now) c.part-bytes.ensures in
-    omega (arith, l, c.put_bytes-a.ensures.next, c.put_hex-b.ensures.next, c.put_hex-b.ensures.short, c.put_bytes-a.auto.0, c.put_hex-b.auto.0, c.requires)
+    omega (arith, l, c.put_bytes-a.ensures.next, c.put_hex-b.ensures.next, c.put_hex-b.ensures.short, c.put_bytes-a.auto.out, c.put_hex-b.auto.out, c.requires)
 
 pub returns : goal.returns
 returns c =

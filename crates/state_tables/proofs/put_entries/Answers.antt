@@ -28,7 +28,7 @@ loop-q-preserved c =
       omega arith,
       more l.q _ (omega (arith, n, p)) (omega arith) l.invariant.1
           (rw (c.index_at.ensures, c.base-first.ensures) at c.put_entry-to.ensures),
-      c.put_entry-to.auto.0 ∙ l.invariant.2,
+      c.put_entry-to.auto.out ∙ l.invariant.2,
     )
 
 pub shape_of-out : goal.shape_of-out
@@ -39,5 +39,5 @@ returns c =
     let l = c.loop-q in
     let n = c.len_of-len.ensures in
     let a = c.args in
-    let e : l.q ≡ len_of (head_at a.t3 a.p) = omega (arith, n) in
+    let e : l.q ≡ len_of (head_at a.state a.p) = omega (arith, n) in
     rw (← e) (said refl (omega (arith, n, c.requires)) l.invariant.1)

@@ -18,7 +18,7 @@ loop-p-preserved c =
     let s = c.put_scan-at.ensures in (
       omega arith,
       more l.p _ (omega (arith, s.next, s.short, c.at_most-held.ensures)) (omega arith) l.invariant.1 c.put_replica-at.ensures,
-      c.put_replica-at.auto.0 ∙ l.invariant.2,
+      c.put_replica-at.auto.out ∙ l.invariant.2,
     )
 
 pub returns : goal.returns

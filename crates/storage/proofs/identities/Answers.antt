@@ -14,7 +14,7 @@ loop-p-init c = (search rules, search rules, refl, refl)
 
 pub loop-p-preserved : goal.loop-p-preserved
 loop-p-preserved c =
-    let hs = c.args.t1 in
+    let hs = c.args.heads in
     let l = c.loop-p in
     let owners : length (owners_of hs) ≡ 8 = length-map hs (λ h. h.identity) ∙ l.invariant.1 in (
       search rules,
@@ -25,7 +25,7 @@ loop-p-preserved c =
 
 pub returns : goal.returns
 returns c =
-    let hs = c.args.t1 in
+    let hs = c.args.heads in
     let l = c.loop-p in
     let owners : length (owners_of hs) ≡ 8 = length-map hs (λ h. h.identity) ∙ l.invariant.1 in
     let e : l.p ≡ 8 = omega arith in

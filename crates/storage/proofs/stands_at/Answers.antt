@@ -11,25 +11,25 @@ use Rattle.storage.proofs.stands_at.Goals as goal
 
 -- src/lib.rt:27:5
 pub loop-p-init : goal.loop-p-init
-loop-p-init c = (search rules, stands_start (identity_of c.args.identity) c.args.held c.args.t1)
+loop-p-init c = (search rules, stands_start (identity_of c.args.identity) c.args.held c.args.own)
 
 -- src/lib.rt:31:13
 pub returns-then-not-precedes : goal.returns-then-not-precedes
 returns-then-not-precedes c =
     let a = c.args in
     let l = c.loop-p in
-    sym (l.invariant.1 ∙ stands_stop (identity_of a.identity) a.held a.t1 l.p (search rules) (sym c.precedes.ensures ∙ c.if-not-precedes.true))
+    sym (l.invariant.1 ∙ stands_stop (identity_of a.identity) a.held a.own l.p (search rules) (sym c.precedes.ensures ∙ c.if-not-precedes.true))
 
 -- src/lib.rt:27:5
 pub loop-p-preserved : goal.loop-p-preserved
 loop-p-preserved c =
     let a = c.args in
     let l = c.loop-p in
-    (search rules, l.invariant.1 ∙ stands_turn (identity_of a.identity) a.held a.t1 l.p (search rules) (sym c.precedes.ensures ∙ c.if-not-precedes.false))
+    (search rules, l.invariant.1 ∙ stands_turn (identity_of a.identity) a.held a.own l.p (search rules) (sym c.precedes.ensures ∙ c.if-not-precedes.false))
 
 -- src/lib.rt:22:1
 pub returns : goal.returns
 returns c =
     let a = c.args in
     let l = c.loop-p in
-    sym (l.invariant.1 ∙ stands_end (identity_of a.identity) a.held a.t1 l.p (search rules))
+    sym (l.invariant.1 ∙ stands_end (identity_of a.identity) a.held a.own l.p (search rules))

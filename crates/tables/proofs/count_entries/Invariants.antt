@@ -10,7 +10,7 @@ use borrow.Author.Rules.{rules}
 use Rattle.tables.proofs.count_entries.Given as goal
 
 abbrev pub invariant-loop-p : goal.invariant-loop-p
-invariant-loop-p l = (l.p ≤ l.held) × (l.n ≡ sum_to l.p (λ l.p. len_of (get_or l.heads l.p no_header))) × (l.n ≤ 64 * l.p)
+invariant-loop-p l = (l.p ≤ l.held) × (l.n ≡ sum_to l.p (λ p. len_of (get_or l.heads p no_header))) × (l.n ≤ 64 * l.p)
 
 abbrev pub decreases-loop-p : goal.decreases-loop-p
 decreases-loop-p l = l.held - l.p

@@ -24,7 +24,7 @@ loop-q-preserved c =
       omega arith,
       more l.q _ (omega (arith, c.len_of-len.ensures, c.requires)) (omega arith) l.invariant.1
           (rw (c.index_at.ensures, c.base-first.ensures) at c.put_entry-to.ensures),
-      c.put_entry-to.auto.0 ∙ l.invariant.2,
+      c.put_entry-to.auto.out ∙ l.invariant.2,
     )
 
 pub shape_of-out : goal.shape_of-out
@@ -33,5 +33,5 @@ shape_of-out c = c.loop-q.invariant.2
 pub returns : goal.returns
 returns c =
     let l = c.loop-q in
-    let e : l.q ≡ len_of (head_at c.args.t3 c.args.p) = omega (arith, c.len_of-len.ensures) in
+    let e : l.q ≡ len_of (head_at c.args.state c.args.p) = omega (arith, c.len_of-len.ensures) in
     rw (← e) (said refl (omega (arith, c.len_of-len.ensures, c.requires)) l.invariant.1)

@@ -12,7 +12,7 @@ use Rattle.tables.proofs.put_log.Given as goal
 
 abbrev pub invariant-loop-q : goal.invariant-loop-q
 invariant-loop-q l =
-    (l.q ≤ l.len) × Wrote l.initial.out l.at (lines_to l.q (λ l.q. place_line (head_at l.state l.p) (get_or l.state.entries (64 * l.p + l.q) no_entry) l.q)) (105 * l.q) l.to l.out × (length l.out ≡ length l.initial.out)
+    (l.q ≤ l.len) × Wrote l.initial.out l.at (lines_to l.q (λ q. place_line (head_at l.state l.p) (get_or l.state.entries (64 * l.p + q) no_entry) q)) (105 * l.q) l.to l.out × (length l.out ≡ length l.initial.out)
 
 abbrev pub decreases-loop-q : goal.decreases-loop-q
 decreases-loop-q l = l.len - l.q

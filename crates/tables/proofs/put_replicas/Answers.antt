@@ -22,7 +22,7 @@ loop-p-preserved c =
     let l = c.loop-p in (
       omega arith,
       more l.p _ (omega (arith, c.requires)) (omega arith) l.invariant.1 c.put_replica-to.ensures,
-      c.put_replica-to.auto.0 ∙ l.invariant.2,
+      c.put_replica-to.auto.out ∙ l.invariant.2,
     )
 
 pub shape_of-out : goal.shape_of-out

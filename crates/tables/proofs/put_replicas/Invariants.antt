@@ -10,7 +10,7 @@ use borrow.Author.Rules.{rules}
 use Rattle.tables.proofs.put_replicas.Given as goal
 
 abbrev pub invariant-loop-p : goal.invariant-loop-p
-invariant-loop-p l = (l.p ≤ l.held) × Wrote l.initial.out l.at (lines_to l.p (λ l.p. head_line (get_or l.heads l.p no_header))) (147 * l.p) l.to l.out × (length l.out ≡ length l.initial.out)
+invariant-loop-p l = (l.p ≤ l.held) × Wrote l.initial.out l.at (lines_to l.p (λ p. head_line (get_or l.heads p no_header))) (147 * l.p) l.to l.out × (length l.out ≡ length l.initial.out)
 
 abbrev pub decreases-loop-p : goal.decreases-loop-p
 decreases-loop-p l = l.held - l.p

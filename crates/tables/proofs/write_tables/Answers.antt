@@ -16,7 +16,7 @@ loop-p-preserved c =
     let l = c.loop-p in (
       omega arith,
       more l.p _ (omega (arith, c.put_heads-at.ensures.next, c.put_heads-at.ensures.short, c.at_most-held.ensures)) (omega arith) l.invariant.1 c.put_log-at.ensures,
-      c.put_log-at.auto.0 ∙ l.invariant.2,
+      c.put_log-at.auto.out ∙ l.invariant.2,
     )
 
 pub returns : goal.returns

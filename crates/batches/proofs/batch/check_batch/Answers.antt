@@ -3,7 +3,6 @@ use mathlib.Core.Path.{sym, ◌∙◌}
 use borrow.Author.Tests.{eq-eqb, ne_eqb, lt-ltb, le-ltb}
 use Rattle.definition.specs.Batch.{batch_rows}
 use Rattle.batches.proofs.Entries.{entries_count}
-use borrow.Author.Rules.{rules}
 use Rattle.batches.proofs.batch.check_batch.Goals as goal
 
 pub returns-then-identity-eq0 : goal.returns-then-identity-eq0

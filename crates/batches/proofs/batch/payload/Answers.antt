@@ -1,6 +1,5 @@
 -- `payload` meets its contract.
 use borrow.Author.Tests.{eq-eqb, ne_eqb}
-use borrow.Author.Rules.{rules}
 use Rattle.batches.proofs.batch.payload.Goals as goal
 
 pub returns-then-kind-eq0 : goal.returns-then-kind-eq0

@@ -4,7 +4,6 @@ use Rattle.definition.specs.Table.{first_of}
 use Rattle.codec.specs.declared.MaybePointer.{MaybePointer}
 use Rattle.codec.specs.Records.{maybe_pointer_of}
 use Rattle.batches.specs.Checks.{beyond_pointer_rows}
-use borrow.Author.Rules.{rules}
 use Rattle.batches.proofs.hard_state.reaches_pointer.Goals as goal
 
 pub returns-in_default : goal.returns-in_default

@@ -6,9 +6,9 @@ use Rattle.persistence.proofs.prepare.conclude.Goals as goal
 pub returns-in-Refused : goal.returns-in-Refused
 returns-in-Refused c =
     let a = c.args in
-    conclude_out a.hard-state a.kept a.preview c.largest_term-largest.result c.check_terms.result c.largest_term-largest.ensures c.check_terms.ensures _ c.in-Refused.is
+    conclude_out a.hard_state a.kept a.preview c.largest_term-largest.result c.check_terms.result c.largest_term-largest.ensures c.check_terms.ensures _ c.in-Refused.is
 
 pub returns : goal.returns
 returns c =
     let a = c.args in
-    conclude_in a.hard-state a.kept a.preview c.largest_term-largest.result c.check_terms.result c.largest_term-largest.ensures c.check_terms.ensures c.in_default.is
+    conclude_in a.hard_state a.kept a.preview c.largest_term-largest.result c.check_terms.result c.largest_term-largest.ensures c.check_terms.ensures c.in_default.is

@@ -11,15 +11,15 @@ use Rattle.persistence.proofs.prepare.held_at.Goals as goal
 
 pub offset_bounds-preview-q : goal.offset_bounds-preview-q
 offset_bounds-preview-q c =
-    let l : c.look-q.result < 64 = rw c.look-q.ensures (look_below c.args.t1.head c.args.index) in
+    let l : c.look-q.result < 64 = rw c.look-q.ensures (look_below c.args.preview.head c.args.index) in
     search rules
 
 pub bounds-preview-q : goal.bounds-preview-q
 bounds-preview-q c =
-    let l : c.look-q.result < 64 = rw c.look-q.ensures (look_below c.args.t1.head c.args.index) in
+    let l : c.look-q.result < 64 = rw c.look-q.ensures (look_below c.args.preview.head c.args.index) in
     search rules
 
 pub returns : goal.returns
 returns c =
     let a = c.args in
-    c.held_term.ensures ∙ ap (λ (x : ℕ). held_term_in (place_of a.t1.head a.index) (get_or a.t1.entries x no_entry).term) c.look-q.ensures
+    c.held_term.ensures ∙ ap (λ (x : ℕ). held_term_in (place_of a.preview.head a.index) (get_or a.preview.entries x no_entry).term) c.look-q.ensures

@@ -9,24 +9,24 @@ use Rattle.persistence.proofs.prepare.largest_term.Goals as goal
 
 pub loop-q-init : goal.loop-q-init
 loop-q-init c =
-    let p = c.args.t1 in
-    let l : length p.entries ≡ 64 = sym (length-map p.entries (Rattle.view.specs.contracts.RecoveredRaftLogEntry.the_type).to) ∙ c.well_formed.0.1.1.1.0.1.0.1 in
+    let p = c.args.preview in
+    let l : length p.entries ≡ 64 = search rules in
     (refl, largest_start p.head p.entries l)
 
 pub returns-then-q-ge64 : goal.returns-then-q-ge64
 returns-then-q-ge64 c =
     let l = c.loop-q in
-    let p = c.args.t1 in
+    let p = c.args.preview in
     largest_past p.head p.entries l.m l.q l.invariant.1 c.if-q-ge64.true
 
 pub loop-q-preserved : goal.loop-q-preserved
 loop-q-preserved c =
     let l = c.loop-q in
-    let p = c.args.t1 in
+    let p = c.args.preview in
     (refl, largest_turn p.head p.entries l.m l.q l.invariant.1 c.loop-q-test.true c.if-q-ge64.false c.larger-m.result c.larger-m.ensures)
 
 pub returns : goal.returns
 returns c =
     let l = c.loop-q in
-    let p = c.args.t1 in
+    let p = c.args.preview in
     largest_end p.head p.entries l.m l.q l.invariant.1 c.loop-q-test.false

@@ -8,9 +8,9 @@ use Rattle.persistence.proofs.prepare.lastly.Goals as goal
 pub returns-in-Refused : goal.returns-in-Refused
 returns-in-Refused c =
     let a = c.args in
-    λ cs. followed_out c.harden_batch-hardened.result cs (harden_in a.kept a.snapshot a.hard-state a.preview cs) (conclude_ran a.hard-state a.kept) (c.harden_batch-hardened.ensures cs) _ c.in-Refused.is ∙ lastly_is a.snapshot a.hard-state a.kept a.preview cs
+    λ cs. followed_out c.harden_batch-hardened.result cs (harden_in a.kept a.snapshot a.hard_state a.preview cs) (conclude_ran a.hard_state a.kept) (c.harden_batch-hardened.ensures cs) _ c.in-Refused.is ∙ lastly_is a.snapshot a.hard_state a.kept a.preview cs
 
 pub returns : goal.returns
 returns c =
     let a = c.args in
-    λ cs. followed_in c.harden_batch-hardened.result cs (harden_in a.kept a.snapshot a.hard-state a.preview cs) (conclude_ran a.hard-state a.kept) (c.harden_batch-hardened.ensures cs) _ c.in_default.is (concluded_is a.hard-state a.kept c.harden_batch-hardened.result.preview c.conclude-concluded.result c.conclude-concluded.ensures cs) ∙ lastly_is a.snapshot a.hard-state a.kept a.preview cs
+    λ cs. followed_in c.harden_batch-hardened.result cs (harden_in a.kept a.snapshot a.hard_state a.preview cs) (conclude_ran a.hard_state a.kept) (c.harden_batch-hardened.ensures cs) _ c.in_default.is (concluded_is a.hard_state a.kept c.harden_batch-hardened.result.preview c.conclude-concluded.result c.conclude-concluded.ensures cs) ∙ lastly_is a.snapshot a.hard_state a.kept a.preview cs

@@ -10,7 +10,7 @@ use Rattle.persistence.proofs.prepare.move_entries.Goals as goal
 pub loop-j-init : goal.loop-j-init
 loop-j-init c =
     let a = c.args in
-    let l : length a.preview.entries ≡ 64 = sym (length-map a.preview.entries (Rattle.view.specs.contracts.RecoveredRaftLogEntry.the_type).to) ∙ c.well_formed.0.1.1.1.0.1.0.1 in
+    let l : length a.preview.entries ≡ 64 = search rules in
     move_start a.k (a.preview.head.len - a.k) a.preview (omega (arith, c.requires.0, c.requires.1)) l
 
 pub loop-j-preserved : goal.loop-j-preserved

@@ -1,7 +1,6 @@
 -- `text::command::push_command` meets its contract.
 use borrow.Author.Tests.{le-leb, lt-leb}
 use Rattle.text.specs.Command.{pushed_command}
-use borrow.Author.Rules.{rules}
 use Rattle.text.proofs.command.push_command.Goals as goal
 
 pub returns-then-digit-gt15 : goal.returns-then-digit-gt15

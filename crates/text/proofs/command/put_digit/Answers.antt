@@ -1,7 +1,6 @@
 -- `text::command::put_digit` meets its contract.
 use native.Mathlib.Omega.{arith}
 use Rattle.text.proofs.Commands.{no_digit, first_digit, too_long, no_room, second_digit}
-use borrow.Author.Rules.{rules}
 use Rattle.text.proofs.command.put_digit.Goals as goal
 
 pub returns-then-digit-gt15 : goal.returns-then-digit-gt15

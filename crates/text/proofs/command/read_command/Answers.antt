@@ -1,11 +1,8 @@
 -- `text::command::read_command` meets its contract. The invariant: what is asked of the whole is what is asked of the rest.
-use mathlib.Core.Path.{◌≡◌, refl, sym, ◌∙◌}
-use Prim.Native.Nat.{◌-◌}
+use mathlib.Core.Path.{refl, sym, ◌∙◌}
 use native.Mathlib.Omega.{arith}
-use borrow.Author.Rules.{rules}
-use lib.ListN.{length, drop}
+use lib.ListN.{drop}
 use Rattle.text.specs.Line.{piece}
-use Rattle.text.specs.Command.{fed_out, read_command}
 use Rattle.text.proofs.Commands.{piece_newline, piece_end, piece_on, command_newline, command_end, command_on, out_stop, out_on}
 use Rattle.text.proofs.command.read_command.Goals as goal
 

@@ -1,6 +1,5 @@
 -- `text::field::count_up` meets its contract.
 use borrow.Author.Tests.{lt-ltb, le-ltb}
-use borrow.Author.Rules.{rules}
 use Rattle.text.proofs.field.count_up.Goals as goal
 
 pub returns-then-n-most : goal.returns-then-n-most

@@ -1,7 +1,6 @@
 -- `text::field::hex_digit` meets its contract.
 use Rattle.text.specs.Text.{hex_digit}
 use borrow.Author.Tests.{lt-ltb, le-ltb, le-leb, lt-leb}
-use borrow.Author.Rules.{rules}
 use Rattle.text.proofs.field.hex_digit.Goals as goal
 
 pub returns-then-b-lt48 : goal.returns-then-b-lt48

@@ -3,10 +3,9 @@ use Prim.Native.Nat.{◌+◌, ◌-◌, ◌*◌}
 use mathlib.Core.Bool.{true, false}
 use mathlib.Core.Path.{◌≡◌}
 use native.Mathlib.Omega.{arith}
-use borrow.Author.Tests.{le-leb, lt-leb, not-true, not-false}
+use borrow.Author.Tests.{le-leb, lt-leb}
 use lib.Dec.{leb}
 use Rattle.definition.specs.Table.{u64_max}
-use borrow.Author.Rules.{rules}
 use Rattle.text.proofs.field.push_decimal.Goals as goal
 
 pub returns-then-not-decimal : goal.returns-then-not-decimal

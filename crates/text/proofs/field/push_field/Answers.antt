@@ -1,6 +1,5 @@
 -- `text::field::push_field` meets its contract.
 use native.Mathlib.Omega.{arith}
-use borrow.Author.Rules.{rules}
 use borrow.Author.Tests.{lt-ltb}
 use Rattle.text.specs.Field.{pushed_field}
 use Rattle.text.proofs.field.push_field.Goals as goal

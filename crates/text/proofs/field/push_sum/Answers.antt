@@ -1,7 +1,6 @@
 -- `text::field::push_sum` meets its contract.
 use borrow.Author.Tests.{eq-eqb, ne_eqb, le-leb, lt-leb}
 use Rattle.text.specs.Field.{pushed_sum}
-use borrow.Author.Rules.{rules}
 use Rattle.text.proofs.field.push_sum.Goals as goal
 
 pub returns-then-digit-gt15 : goal.returns-then-digit-gt15

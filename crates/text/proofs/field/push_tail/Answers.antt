@@ -1,6 +1,5 @@
 -- `text::field::push_tail` meets its contract.
 use borrow.Author.Tests.{lt-ltb, le-ltb}
-use borrow.Author.Rules.{rules}
 use Rattle.text.proofs.field.push_tail.Goals as goal
 
 pub returns-then-len-lt8 : goal.returns-then-len-lt8

@@ -1,10 +1,7 @@
 -- `text::field::scan_field` meets its contract. The invariant: what is asked of the whole is what is asked of the rest.
-use mathlib.Core.Path.{◌≡◌, refl, sym, ◌∙◌}
-use Prim.Native.Nat.{◌-◌}
+use mathlib.Core.Path.{refl, sym, ◌∙◌}
 use native.Mathlib.Omega.{arith}
-use borrow.Author.Rules.{rules}
-use lib.ListN.{length, drop}
-use Rattle.text.specs.Field.{scanned_field}
+use lib.ListN.{drop}
 use Rattle.text.proofs.Scan.{word_space, word_newline, word_end, word_on, scan_stop, scan_on}
 use Rattle.text.proofs.field.scan_field.Goals as goal
 

@@ -1,11 +1,8 @@
 -- `text::field::scan_sum` meets its contract. The invariant: what is asked of the whole is what is asked of the rest.
-use mathlib.Core.Path.{◌≡◌, refl, sym, ◌∙◌}
+use mathlib.Core.Path.{◌≡◌}
 use Prim.Native.Nat.{◌-◌}
-use native.Mathlib.Omega.{arith}
-use borrow.Author.Rules.{rules}
 use lib.ListN.{length, drop}
 use Rattle.text.specs.Field.{scanned_sum}
-use Rattle.text.proofs.Scan.{word_space, word_newline, word_end, word_on, sum_stop, sum_on}
 use Rattle.text.proofs.field.scan_sum.Given as goal
 
 abbrev pub invariant-loop-at : goal.invariant-loop-at

@@ -1,14 +1,13 @@
 -- `text::line::read_line` meets its contract. The invariant: what is asked of the whole is what is asked of the rest.
-use mathlib.Core.Path.{◌≡◌, refl, sym, ◌∙◌}
-use mathlib.Core.Logic.{⊎_elim}
-use Prim.Native.Nat.{◌+◌, ◌-◌, ◌<◌}
+use mathlib.Core.Path.{refl, sym, ◌∙◌}
+use Prim.Native.Nat.{◌+◌, ◌<◌}
 use native.Mathlib.Omega.{arith}
-use borrow.Author.Rules.{rules}
 use lib.ListN.{length, drop}
 use Rattle.text.specs.Field.{word}
-use Rattle.text.specs.Line.{line_of, read_line}
+use Rattle.text.specs.Line.{line_of}
 use Rattle.text.specs.declared.line.Line.{Line}
 use Rattle.text.proofs.Lines.{line_newline, line_end, space_low, space_kept, space_more, line_field, line_sum, word_moves}
+use Rattle.text.proofs.line.read_line.Goals.{then-n-lt12, else-n-lt12}
 use Rattle.text.proofs.line.read_line.Goals as goal
 
 pub loop-at-init : goal.loop-at-init
@@ -51,10 +50,10 @@ loop-at-preserved-then-b-eq32-2 c =
     let space = c.if-b-eq32-2.true in
     let late = c.if-n-lt10.false in
     rw (c.count_up-n.ensures, c.blank-f-then-b-eq32-2.ensures, c.blank-m.ensures)
-    (⊎_elim
-    (λ w. rw w.1 (k.invariant ∙ space_kept l s k.at (omega arith) space late w.0.taken))
-    (λ w. rw w.1 (k.invariant ∙ space_more l s k.at (omega arith) space late w.0.left))
-    c.if-n-lt12.branch)
+    (elim c.if-n-lt12.branch [
+      | then-n-lt12 w ↦ rw w.fields-is (k.invariant ∙ space_kept l s k.at (omega arith) space late w.if-n-lt12.true)
+      | else-n-lt12 w ↦ rw w.fields-is (k.invariant ∙ space_more l s k.at (omega arith) space late w.if-n-lt12.false)
+    ])
 
 pub loop-at-smaller : goal.loop-at-smaller
 loop-at-smaller c =

@@ -1,14 +1,8 @@
 -- `text::line::read_line` meets its contract. The invariant: what is asked of the whole is what is asked of the rest.
-use mathlib.Core.Path.{◌≡◌, refl, sym, ◌∙◌}
-use mathlib.Core.Logic.{⊎_elim}
-use Prim.Native.Nat.{◌+◌, ◌-◌, ◌<◌}
-use native.Mathlib.Omega.{arith}
-use borrow.Author.Rules.{rules}
+use mathlib.Core.Path.{◌≡◌}
+use Prim.Native.Nat.{◌-◌}
 use lib.ListN.{length, drop}
-use Rattle.text.specs.Field.{word}
 use Rattle.text.specs.Line.{line_of, read_line}
-use Rattle.text.specs.declared.line.Line.{Line}
-use Rattle.text.proofs.Lines.{line_newline, line_end, space_low, space_kept, space_more, line_field, line_sum, word_moves}
 use Rattle.text.proofs.line.read_line.Given as goal
 
 abbrev pub invariant-loop-at : goal.invariant-loop-at

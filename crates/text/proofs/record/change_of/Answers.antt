@@ -1,6 +1,5 @@
 -- `text::record::change_of` meets its contract.
 use mathlib.Core.Path.{sym, ◌∙◌}
-use borrow.Author.Rules.{rules}
 use Rattle.text.specs.Record.{change_on}
 use Rattle.text.proofs.record.change_of.Goals as goal
 

@@ -5,7 +5,6 @@ use native.Mathlib.Omega.{arith}
 use lib.Dec.{leb}
 use Rattle.text.proofs.Given.{most_256}
 use borrow.Author.Tests.{le-leb, lt-leb}
-use borrow.Author.Rules.{rules}
 use Rattle.text.specs.Record.{command_at}
 use Rattle.text.proofs.record.command_at.Goals as goal
 

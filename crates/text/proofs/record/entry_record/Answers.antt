@@ -1,6 +1,5 @@
 -- `text::record::entry_record` meets its contract.
 use Rattle.text.specs.Record.{entry_record_of}
-use borrow.Author.Rules.{rules}
 use Rattle.text.proofs.record.entry_record.Goals as goal
 
 pub returns : goal.returns

@@ -1,6 +1,5 @@
 -- `text::record::hard_state_record` meets its contract.
 use Rattle.text.specs.Record.{hard_state_record_of}
-use borrow.Author.Rules.{rules}
 use Rattle.text.proofs.record.hard_state_record.Goals as goal
 
 pub returns : goal.returns

@@ -1,7 +1,6 @@
 -- `text::record::header_of` meets its contract.
-use borrow.Author.Tests.{eq-eqb, le-leb, lt-leb, ne_eqb, not-false, not-true}
+use borrow.Author.Tests.{eq-eqb, le-leb, lt-leb, ne_eqb}
 use mathlib.Core.Path.{sym, ◌∙◌}
-use borrow.Author.Rules.{rules}
 use Rattle.text.specs.Record.{line_header}
 use Rattle.text.proofs.record.header_of.Goals as goal
 

@@ -1,8 +1,6 @@
 -- `text::record::is_entry` meets its contract.
-use borrow.Author.Tests.{not-false, not-true}
 use mathlib.Core.Path.{sym, ◌∙◌}
 use Rattle.text.specs.Record.{entry_line}
-use borrow.Author.Rules.{rules}
 use Rattle.text.proofs.record.is_entry.Goals as goal
 
 pub returns-then-not-is_letter : goal.returns-then-not-is_letter

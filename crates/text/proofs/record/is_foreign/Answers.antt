@@ -1,8 +1,7 @@
 -- `text::record::is_foreign` meets its contract.
-use borrow.Author.Tests.{eq-eqb, ne_eqb, not-false, not-true}
+use borrow.Author.Tests.{eq-eqb, ne_eqb}
 use mathlib.Core.Path.{sym, ◌∙◌}
 use Rattle.text.specs.Record.{foreign_line}
-use borrow.Author.Rules.{rules}
 use Rattle.text.proofs.record.is_foreign.Goals as goal
 
 pub returns-then-line-ne1 : goal.returns-then-line-ne1

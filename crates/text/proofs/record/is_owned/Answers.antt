@@ -1,7 +1,5 @@
 -- `text::record::is_owned` meets its contract.
-use borrow.Author.Tests.{not-false, not-true}
 use mathlib.Core.Path.{sym, ◌∙◌}
-use borrow.Author.Rules.{rules}
 use Rattle.text.specs.Record.{owned_line}
 use Rattle.text.proofs.record.is_owned.Goals as goal
 

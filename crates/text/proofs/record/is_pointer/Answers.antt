@@ -1,8 +1,7 @@
 -- `text::record::is_pointer` meets its contract.
-use borrow.Author.Tests.{eq-eqb, ne_eqb, not-false, not-true}
+use borrow.Author.Tests.{eq-eqb, ne_eqb}
 use mathlib.Core.Path.{sym, ◌∙◌}
 use Rattle.text.specs.Record.{pointer_line}
-use borrow.Author.Rules.{rules}
 use Rattle.text.proofs.record.is_pointer.Goals as goal
 
 pub returns-then-line-ne11 : goal.returns-then-line-ne11

@@ -1,6 +1,5 @@
 -- `text::record::is_vote` meets its contract.
 use mathlib.Core.Path.{sym, ◌∙◌}
-use borrow.Author.Rules.{rules}
 use Rattle.text.proofs.record.is_vote.Goals as goal
 
 pub returns-then-is_letter : goal.returns-then-is_letter

@@ -1,6 +1,5 @@
 -- `text::record::pointer_record` meets its contract.
 use Rattle.text.specs.Record.{pointer_record_of}
-use borrow.Author.Rules.{rules}
 use Rattle.text.proofs.record.pointer_record.Goals as goal
 
 pub returns : goal.returns

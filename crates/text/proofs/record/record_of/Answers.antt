@@ -1,10 +1,8 @@
 -- `text::record::record_of` meets its contract.
-use borrow.Author.Tests.{not-false, not-true}
 use mathlib.Core.Path.{sym, ap, ◌∙◌}
 use Rattle.codec.specs.declared.WalRecord.{WalRecord}
 use Rattle.text.specs.declared.record.MaybeRecord.TheVariants as M
 use Rattle.text.specs.Record.{line_record}
-use borrow.Author.Rules.{rules}
 use Rattle.text.proofs.record.record_of.Goals as goal
 
 pub returns-then-is_foreign : goal.returns-then-is_foreign

@@ -1,6 +1,5 @@
 -- `text::record::version_of` meets its contract.
 use borrow.Author.Tests.{le-leb, lt-leb}
-use borrow.Author.Rules.{rules}
 use Rattle.text.proofs.record.version_of.Goals as goal
 
 pub returns-then-f-le4294967295 : goal.returns-then-f-le4294967295

@@ -1,6 +1,5 @@
 -- `text::record::vote_of` meets its contract.
 use mathlib.Core.Path.{sym, ◌∙◌}
-use borrow.Author.Rules.{rules}
 use Rattle.text.proofs.record.vote_of.Goals as goal
 
 pub returns-then-is_letter : goal.returns-then-is_letter

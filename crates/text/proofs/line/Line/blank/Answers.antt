@@ -1,5 +1,4 @@
 -- `text::line::Line::blank` meets its contract.
-use borrow.Author.Rules.{rules}
 use Rattle.text.proofs.line.Line.blank.Goals as goal
 
 pub returns : goal.returns
