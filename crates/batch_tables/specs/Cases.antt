@@ -12,7 +12,6 @@ use Rattle.codec.specs.declared.ConfChangeKind.TheVariants as K
 use Rattle.codec.specs.declared.DurableRaftEntryPayload.{DurableRaftEntryPayload}
 use Rattle.codec.specs.declared.DurableRaftEntryPayload.TheVariants as Y
 use Rattle.codec.specs.declared.Vote.TheVariants as O
-use Rattle.codec.specs.declared.RaftWalRecord.{RaftWalRecord}
 use Rattle.codec.specs.declared.RaftWalRecord.TheVariants as W
 use Rattle.codec.specs.declared.RecordBody.TheVariants as B
 use Rattle.tables.specs.Tables.{digits_within, decimal, row}

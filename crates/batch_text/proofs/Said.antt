@@ -14,8 +14,7 @@ use Rattle.codec.specs.declared.ConfChangeKind.TheVariants as K
 use Rattle.codec.specs.declared.DurableRaftEntryPayload.{DurableRaftEntryPayload}
 use Rattle.codec.specs.declared.DurableRaftEntryPayload.TheVariants as Y
 use Rattle.codec.specs.Records.{vote_of, payload_of}
-use Rattle.batches.specs.Meaning.{payload_numbered}
-use Rattle.text.specs.Text.{u32_max, is_number, value, is_hex, is_checksum, nth, is_letter, vote, command, change, changed}
+use Rattle.text.specs.Text.{u32_max, is_number, value, is_hex, is_checksum, nth, is_letter, vote, command}
 use Rattle.text.specs.Line.{blank_line, fed}
 use Rattle.text.specs.Record.{field_at, number_field, version_field, letter_field, sum_field, version_of, vote_on, command_at, change_on, line_header, is_byte, pack_from, maybe_count_of, commands_in, Lent}
 use Rattle.text.specs.declared.field.Field.{Field}

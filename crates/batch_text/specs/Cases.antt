@@ -1,18 +1,15 @@
 -- Computed tests of the lines of a batch, and of which may stand where. Each is one declaration over a list.
 -- Assumes nothing.
-use Rattle.std.specs.Prelude.{ℕ, ◌+◌, Bool, true, false, not, ◌&&◌, List, [], ◌∷◌, ◌++◌, get_or, replicate, T}
+use Rattle.std.specs.Prelude.{ℕ, Bool, true, false, not, ◌&&◌, List, [], ◌∷◌, get_or, replicate, T}
 use Prim.Native.Char.{code}
 use Prim.Native.String.{String, [] as empty, ◌∷◌ as ◌then◌}
 use Rattle.std.proofs.Math.Option.{Option, none, some}
 use Rattle.definition.specs.Table.{◌=?◌, every, u64_max}
-use Rattle.definition.specs.Records.{Identity, same, addLearner, promoteLearner, removeReplica, Payload, normal, inside, configuration, same_payload, LogEntry, HardState, Checksum, same_pointer}
-use Rattle.definition.specs.Log.{PointerRecord}
+use Rattle.definition.specs.Records.{Identity, same, addLearner, promoteLearner, removeReplica, Payload, normal, inside, configuration, same_payload, Checksum, same_pointer}
 use Rattle.codec.specs.declared.Vote.TheVariants as O
-use Rattle.codec.specs.declared.RaftSnapshotPointerRecord.{RaftSnapshotPointerRecord}
 use Rattle.text.specs.Text.{numeral_from, hex_digit, hex_from, fields_from}
 use Rattle.batch_text.specs.Text.{Said, pointer, entry, hard_state, show, finish_line, batch_line, fields_say, line_says}
 use Rattle.batch_text.specs.Order.{no_batch, with_entry, add_pointer, add_entry, add_hard_state, add_show, added}
-use Rattle.batch_text.specs.declared.BatchEntry.{BatchEntry}
 use Rattle.batch_text.specs.declared.BatchLine.{BatchLine}
 use Rattle.batch_text.specs.declared.BatchLine.TheVariants as L
 use Rattle.batch_text.specs.declared.Given.{Given}

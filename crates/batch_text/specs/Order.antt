@@ -9,7 +9,6 @@ use Rattle.codec.specs.declared.MaybePointer.TheVariants as P
 use Rattle.codec.specs.declared.MaybeHardState.{MaybeHardState}
 use Rattle.codec.specs.declared.MaybeHardState.TheVariants as H
 use Rattle.batches.specs.declared.BatchEntries.{BatchEntries}
-use Rattle.batches.specs.declared.RaftPersistenceBatch.{RaftPersistenceBatch}
 use Rattle.batch_text.specs.declared.BatchEntry.{BatchEntry}
 use Rattle.batch_text.specs.declared.BatchLine.{BatchLine}
 use Rattle.batch_text.specs.declared.BatchLine.TheVariants as L

@@ -1,6 +1,6 @@
 -- The lines of a batch, behind a journal. A line is its bytes, without the newline; fields, numbers and checksums are a journal's.
 -- Assumes nothing.
-use Rattle.std.specs.Prelude.{ℕ, Bool, ◌&&◌, List, [], ◌∷◌, length}
+use Rattle.std.specs.Prelude.{ℕ, ◌&&◌, List, [], ◌∷◌, length}
 use Rattle.std.proofs.Math.Option.{Option, none, some}
 use Rattle.definition.specs.Table.{◌=?◌, u64_max, if◌then◌else◌, same_bytes}
 use Rattle.definition.specs.Records.{Identity, Payload, LogEntry, HardState}

@@ -1,6 +1,5 @@
 -- `batch_tables::digit` meets its contract.
 use borrow.Author.Tests.{le-ltb, lt-ltb}
-use borrow.Author.Rules.{rules}
 use Rattle.batch_tables.proofs.digit.Goals as goal
 
 pub returns-then-n-lt10 : goal.returns-then-n-lt10

@@ -1,13 +1,10 @@
 -- `batch_tables::number_of` meets its contract. The invariant: what is asked of all commands is what is asked of those from i on.
-use mathlib.Core.Path.{◌≡◌, refl, sym, ◌∙◌}
+use mathlib.Core.Path.{◌≡◌}
 use Prim.Native.Nat.{◌≤◌, ◌-◌}
 use lib.ListN.{take, drop}
 use Rattle.text.specs.Record.{at_most256, commands_in}
-use Rattle.text.proofs.Given.{most_256}
 use Rattle.batch_tables.specs.Lines.{least_number}
-use Rattle.batch_tables.proofs.Commands.{rest, found, next, missing}
-use native.Mathlib.Omega.{arith}
-use borrow.Author.Rules.{rules}
+use Rattle.batch_tables.proofs.Commands.{rest}
 use Rattle.batch_tables.proofs.number_of.Given as goal
 
 abbrev pub invariant-loop-i : goal.invariant-loop-i

@@ -2,7 +2,6 @@
 use mathlib.Core.Path.{refl}
 use native.Mathlib.Omega.{arith}
 use Rattle.tables.proofs.Wrote.{said, then}
-use borrow.Author.Rules.{rules}
 use Rattle.batch_tables.proofs.put_checksum.Goals as goal
 
 pub returns : goal.returns

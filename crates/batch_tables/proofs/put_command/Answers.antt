@@ -2,7 +2,6 @@
 use Rattle.batch_tables.proofs.Rows.{no_command, a_command}
 use native.Mathlib.Omega.{arith}
 use Rattle.tables.proofs.Wrote.{said, then}
-use borrow.Author.Rules.{rules}
 use Rattle.batch_tables.proofs.put_command.Goals as goal
 
 pub returns-then-bytes-eq0 : goal.returns-then-bytes-eq0

@@ -2,7 +2,6 @@
 use Rattle.batch_tables.proofs.Rows.{entry_with_lem}
 use native.Mathlib.Omega.{arith}
 use Rattle.tables.proofs.Wrote.{said, then}
-use borrow.Author.Rules.{rules}
 use Rattle.batch_tables.proofs.put_entry.Goals as goal
 
 pub returns : goal.returns

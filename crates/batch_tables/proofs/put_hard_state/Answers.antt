@@ -3,7 +3,6 @@ use Rattle.codec.specs.Records.{hard_state_of}
 use Rattle.batch_tables.proofs.Rows.{hard_state_row}
 use native.Mathlib.Omega.{arith}
 use Rattle.tables.proofs.Wrote.{said, then}
-use borrow.Author.Rules.{rules}
 use Rattle.batch_tables.proofs.put_hard_state.Goals as goal
 
 pub returns : goal.returns

@@ -1,13 +1,9 @@
 -- `batch_tables::put_hex` meets its contract. The invariant: the first i bytes are written.
-use mathlib.Core.Path.{◌≡◌, refl, ◌∙◌}
+use mathlib.Core.Path.{◌≡◌}
 use Prim.Native.Nat.{◌≤◌, ◌-◌, ◌*◌}
 use lib.ListN.{length, get_or}
 use Rattle.tables.specs.Model.{lines_to, Wrote}
 use Rattle.batch_tables.specs.Lines.{hex_pair}
-use Rattle.batch_tables.proofs.Rows.{hex_lines}
-use native.Mathlib.Omega.{arith}
-use Rattle.tables.proofs.Wrote.{begin, more, said}
-use borrow.Author.Rules.{rules}
 use Rattle.batch_tables.proofs.put_hex.Given as goal
 
 abbrev pub invariant-loop-i : goal.invariant-loop-i

@@ -2,7 +2,6 @@
 use Rattle.batch_tables.proofs.Rows.{normal_row}
 use native.Mathlib.Omega.{arith}
 use Rattle.tables.proofs.Wrote.{said, then}
-use borrow.Author.Rules.{rules}
 use Rattle.batch_tables.proofs.put_normal.Goals as goal
 
 pub returns : goal.returns

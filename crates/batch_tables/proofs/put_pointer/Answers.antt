@@ -3,7 +3,6 @@ use Rattle.codec.specs.Records.{pointer_of}
 use Rattle.batch_tables.proofs.Rows.{pointer_row}
 use native.Mathlib.Omega.{arith}
 use Rattle.tables.proofs.Wrote.{said, then}
-use borrow.Author.Rules.{rules}
 use Rattle.batch_tables.proofs.put_pointer.Goals as goal
 
 pub returns : goal.returns

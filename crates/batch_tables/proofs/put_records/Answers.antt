@@ -1,13 +1,7 @@
 -- `batch_tables::put_records` meets its contract. The invariant: the first i records are written.
 use mathlib.Core.Path.{◌≡◌, refl, ◌∙◌}
-use Prim.Native.Nat.{◌≤◌, ◌-◌, ◌*◌}
-use lib.ListN.{length, get_or}
-use Rattle.text.specs.Record.{commands_in}
-use Rattle.tables.specs.Model.{lines_to, Wrote}
-use Rattle.batch_tables.specs.Model.{record_text, no_record}
 use native.Mathlib.Omega.{arith}
 use Rattle.tables.proofs.Wrote.{begin, more, said}
-use borrow.Author.Rules.{rules}
 use Rattle.batch_tables.proofs.put_records.Goals as goal
 
 pub loop-i-init : goal.loop-i-init

@@ -3,7 +3,6 @@ use Rattle.tables.specs.Tables.{refused_word}
 use Rattle.tables.proofs.Lines.{count_row}
 use native.Mathlib.Omega.{arith}
 use Rattle.tables.proofs.Wrote.{said, then}
-use borrow.Author.Rules.{rules}
 use Rattle.batch_tables.proofs.put_refused.Goals as goal
 
 pub returns : goal.returns

@@ -2,7 +2,6 @@
 use mathlib.Core.Path.{refl}
 use native.Mathlib.Omega.{arith}
 use Rattle.tables.proofs.Wrote.{said}
-use borrow.Author.Rules.{rules}
 use Rattle.batch_tables.proofs.put_source.Goals as goal
 
 pub returns-then-of_batch : goal.returns-then-of_batch

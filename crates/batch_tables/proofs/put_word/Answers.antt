@@ -1,5 +1,4 @@
 -- `batch_tables::put_word` meets its contract.
-use borrow.Author.Rules.{rules}
 use Rattle.batch_tables.proofs.put_word.Goals as goal
 
 pub returns : goal.returns

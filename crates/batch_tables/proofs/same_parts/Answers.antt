@@ -1,5 +1,4 @@
 -- `batch_tables::same_parts` meets its contract.
-use borrow.Author.Rules.{rules}
 use Rattle.batch_tables.proofs.same_parts.Goals as goal
 
 pub returns : goal.returns

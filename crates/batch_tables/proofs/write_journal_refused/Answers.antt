@@ -2,7 +2,6 @@
 use Rattle.batch_tables.proofs.Rows.{journal_row}
 use native.Mathlib.Omega.{arith}
 use Rattle.tables.proofs.Wrote.{printed, said, then}
-use borrow.Author.Rules.{rules}
 use Rattle.batch_tables.proofs.write_journal_refused.Goals as goal
 
 pub returns : goal.returns

@@ -4,7 +4,6 @@ use Rattle.batch_tables.specs.Lines.{minimum_word}
 use Rattle.batch_tables.proofs.Rows.{no_minimum_row}
 use native.Mathlib.Omega.{arith}
 use Rattle.tables.proofs.Wrote.{printed, said, then}
-use borrow.Author.Rules.{rules}
 use Rattle.batch_tables.proofs.write_minimum.Goals as goal
 
 pub returns-in_default : goal.returns-in_default

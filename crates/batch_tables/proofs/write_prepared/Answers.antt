@@ -3,7 +3,6 @@ use mathlib.Core.Path.{refl}
 use Rattle.batch_tables.specs.Model.{prepared_text}
 use native.Mathlib.Omega.{arith}
 use Rattle.tables.proofs.Wrote.{printed, said}
-use borrow.Author.Rules.{rules}
 use Rattle.batch_tables.proofs.write_prepared.Goals as goal
 
 pub returns-in-Refused : goal.returns-in-Refused

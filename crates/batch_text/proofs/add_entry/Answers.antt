@@ -1,8 +1,7 @@
 -- `batch_text::add_entry` meets its contract.
-use borrow.Author.Tests.{le-ltb, lt-ltb, not-false, not-true}
+use borrow.Author.Tests.{le-ltb, lt-ltb}
 use mathlib.Core.Path.{sym, ◌∙◌}
 use Rattle.batch_text.specs.Order.{add_entry}
-use borrow.Author.Rules.{rules}
 use Rattle.batch_text.proofs.add_entry.Goals as goal
 
 pub returns-then-not-is_open : goal.returns-then-not-is_open

@@ -1,8 +1,6 @@
 -- `batch_text::add_hard_state` meets its contract.
-use borrow.Author.Tests.{not-false, not-true}
 use mathlib.Core.Path.{sym, ◌∙◌}
 use Rattle.batch_text.specs.Order.{add_hard_state}
-use borrow.Author.Rules.{rules}
 use Rattle.batch_text.proofs.add_hard_state.Goals as goal
 
 pub returns-then-not-is_open : goal.returns-then-not-is_open

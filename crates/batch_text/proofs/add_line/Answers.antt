@@ -1,5 +1,4 @@
 -- `batch_text::add_line` meets its contract.
-use borrow.Author.Rules.{rules}
 use Rattle.batch_text.proofs.add_line.Goals as goal
 
 pub returns-in-None : goal.returns-in-None

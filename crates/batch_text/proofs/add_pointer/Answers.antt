@@ -1,8 +1,7 @@
 -- `batch_text::add_pointer` meets its contract.
-use borrow.Author.Tests.{eq-eqb, ne_eqb, not-false, not-true}
+use borrow.Author.Tests.{eq-eqb, ne_eqb}
 use mathlib.Core.Path.{sym, ◌∙◌}
 use Rattle.batch_text.specs.Order.{add_pointer}
-use borrow.Author.Rules.{rules}
 use Rattle.batch_text.proofs.add_pointer.Goals as goal
 
 pub returns-then-not-is_open : goal.returns-then-not-is_open

@@ -1,7 +1,6 @@
 -- `batch_text::add_show` meets its contract.
 use borrow.Author.Tests.{le-ltb, lt-ltb}
 use Rattle.batch_text.specs.Order.{add_show}
-use borrow.Author.Rules.{rules}
 use Rattle.batch_text.proofs.add_show.Goals as goal
 
 pub returns-then-given-ge-MAX_SHOWS : goal.returns-then-given-ge-MAX_SHOWS

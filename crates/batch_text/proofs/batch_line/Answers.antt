@@ -1,12 +1,10 @@
 -- `batch_text::batch_line` meets its contract.
-use borrow.Author.Tests.{not-false, not-true}
 use mathlib.Core.Path.{sym, ap, ◌∙◌}
 use Rattle.codec.specs.declared.HardState.{HardState}
 use Rattle.codec.specs.declared.RaftSnapshotPointerRecord.{RaftSnapshotPointerRecord}
 use Rattle.batch_text.specs.Line.{line_on}
 use Rattle.batch_text.specs.declared.BatchEntry.{BatchEntry}
 use Rattle.batch_text.specs.declared.BatchLine.TheVariants as L
-use borrow.Author.Rules.{rules}
 use Rattle.batch_text.proofs.batch_line.Goals as goal
 
 pub returns-then-is_pointer : goal.returns-then-is_pointer

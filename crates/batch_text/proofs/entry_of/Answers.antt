@@ -1,5 +1,4 @@
 -- `batch_text::entry_of` meets its contract.
-use borrow.Author.Rules.{rules}
 use Rattle.batch_text.proofs.entry_of.Goals as goal
 
 pub returns-in-Normal : goal.returns-in-Normal

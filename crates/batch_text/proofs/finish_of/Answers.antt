@@ -1,8 +1,6 @@
 -- `batch_text::finish_of` meets its contract.
-use borrow.Author.Tests.{not-false, not-true}
 use mathlib.Core.Path.{sym, ◌∙◌}
 use Rattle.batch_text.specs.Line.{finish_on}
-use borrow.Author.Rules.{rules}
 use Rattle.batch_text.proofs.finish_of.Goals as goal
 
 pub returns-then-not-is_headed : goal.returns-then-not-is_headed

@@ -1,6 +1,5 @@
 -- `batch_text::hard_state_of` meets its contract.
 use Rattle.batch_text.specs.Line.{hard_state_on}
-use borrow.Author.Rules.{rules}
 use Rattle.batch_text.proofs.hard_state_of.Goals as goal
 
 pub returns : goal.returns

@@ -1,8 +1,6 @@
 -- `batch_text::is_entry` meets its contract.
-use borrow.Author.Tests.{not-false, not-true}
 use mathlib.Core.Path.{sym, ◌∙◌}
 use Rattle.batch_text.specs.Line.{entry_line}
-use borrow.Author.Rules.{rules}
 use Rattle.batch_text.proofs.is_entry.Goals as goal
 
 pub returns-then-not-is_letter : goal.returns-then-not-is_letter

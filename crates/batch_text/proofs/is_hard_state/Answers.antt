@@ -1,8 +1,7 @@
 -- `batch_text::is_hard_state` meets its contract.
-use borrow.Author.Tests.{eq-eqb, ne_eqb, not-false, not-true}
+use borrow.Author.Tests.{eq-eqb, ne_eqb}
 use mathlib.Core.Path.{sym, ◌∙◌}
 use Rattle.batch_text.specs.Line.{hard_state_line}
-use borrow.Author.Rules.{rules}
 use Rattle.batch_text.proofs.is_hard_state.Goals as goal
 
 pub returns-then-line-ne3 : goal.returns-then-line-ne3

@@ -1,6 +1,5 @@
 -- `batch_text::is_headed` meets its contract.
 use borrow.Author.Tests.{eq-eqb, ne_eqb}
-use borrow.Author.Rules.{rules}
 use Rattle.batch_text.proofs.is_headed.Goals as goal
 
 pub returns-then-line-count : goal.returns-then-line-count

@@ -1,6 +1,5 @@
 -- `batch_text::is_open` meets its contract.
 use borrow.Author.Tests.{eq-eqb, ne_eqb}
-use borrow.Author.Rules.{rules}
 use Rattle.batch_text.proofs.is_open.Goals as goal
 
 pub returns-then-given-ne0 : goal.returns-then-given-ne0

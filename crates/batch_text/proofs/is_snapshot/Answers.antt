@@ -1,7 +1,5 @@
 -- `batch_text::is_snapshot` meets its contract.
-use borrow.Author.Tests.{not-false, not-true}
 use mathlib.Core.Path.{sym, ◌∙◌}
-use borrow.Author.Rules.{rules}
 use Rattle.batch_text.proofs.is_snapshot.Goals as goal
 
 pub returns-then-not-are_numbers : goal.returns-then-not-are_numbers

@@ -1,8 +1,7 @@
 -- `batch_text::payload_of` meets its contract.
-use borrow.Author.Tests.{eq-eqb, ne_eqb, not-false, not-true}
+use borrow.Author.Tests.{eq-eqb, ne_eqb}
 use mathlib.Core.Path.{sym, ◌∙◌}
 use Rattle.batch_text.specs.Line.{payload_on}
-use borrow.Author.Rules.{rules}
 use Rattle.batch_text.proofs.payload_of.Goals as goal
 
 pub returns-then-not-is_letter : goal.returns-then-not-is_letter

@@ -1,6 +1,5 @@
 -- `batch_text::pointer_of` meets its contract.
 use Rattle.batch_text.specs.Line.{pointer_on}
-use borrow.Author.Rules.{rules}
 use Rattle.batch_text.proofs.pointer_of.Goals as goal
 
 pub returns : goal.returns

@@ -1,7 +1,6 @@
 -- `batch_text::with_entry` meets its contract.
 use borrow.Author.Tests.{le-ltb, lt-ltb}
 use Rattle.batch_text.specs.Order.{with_entry}
-use borrow.Author.Rules.{rules}
 use Rattle.batch_text.proofs.with_entry.Goals as goal
 
 pub returns-then-at-ge32 : goal.returns-then-at-ge32

@@ -1,5 +1,4 @@
 -- `replica_line::number_in` meets its contract.
-use borrow.Author.Rules.{rules}
 use Rattle.replica_line.proofs.number_in.Goals as goal
 
 pub returns : goal.returns

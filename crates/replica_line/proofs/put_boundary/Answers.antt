@@ -3,7 +3,6 @@ use native.Mathlib.Omega.{arith}
 use Rattle.tables.proofs.Wrote.{then, said}
 use Rattle.replica_line.specs.Lines.{boundary_word}
 use Rattle.replica_line.proofs.Rows.{spaced_3, no_boundary}
-use borrow.Author.Rules.{rules}
 use Rattle.replica_line.proofs.put_boundary.Goals as goal
 
 pub returns-in_default : goal.returns-in_default

@@ -3,7 +3,6 @@ use native.Mathlib.Omega.{arith}
 use Rattle.tables.proofs.Wrote.{then, said}
 use Rattle.replica_line.specs.Lines.{commit_word}
 use Rattle.replica_line.proofs.Rows.{spaced_2}
-use borrow.Author.Rules.{rules}
 use Rattle.replica_line.proofs.put_commit.Goals as goal
 
 pub returns : goal.returns

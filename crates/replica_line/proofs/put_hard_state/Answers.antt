@@ -3,7 +3,6 @@ use native.Mathlib.Omega.{arith}
 use Rattle.tables.proofs.Wrote.{then, said}
 use Rattle.replica_line.specs.Lines.{hard_word}
 use Rattle.replica_line.proofs.Rows.{spaced_4, no_hard_state}
-use borrow.Author.Rules.{rules}
 use Rattle.replica_line.proofs.put_hard_state.Goals as goal
 
 pub returns-in_default : goal.returns-in_default

@@ -3,7 +3,6 @@ use native.Mathlib.Omega.{arith}
 use Rattle.tables.proofs.Wrote.{then, said}
 use Rattle.replica_line.specs.Lines.{log_word, replica_line}
 use Rattle.replica_line.proofs.Rows.{group_row}
-use borrow.Author.Rules.{rules}
 use Rattle.replica_line.proofs.put_line.Goals as goal
 
 pub returns : goal.returns

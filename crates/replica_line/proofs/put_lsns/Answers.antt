@@ -4,7 +4,6 @@ use Rattle.tables.proofs.Wrote.{then, said}
 use Rattle.batch_tables.specs.Lines.{spaced, minimum_word}
 use Rattle.replica_line.specs.Lines.{hard_lsn_word, pointer_lsn_word, replayed_word}
 use Rattle.replica_line.proofs.Rows.{spaced_pairs, named_is}
-use borrow.Author.Rules.{rules}
 use Rattle.replica_line.proofs.put_lsns.Goals as goal
 
 pub returns : goal.returns

@@ -2,7 +2,6 @@
 use mathlib.Core.Path.{refl}
 use native.Mathlib.Omega.{arith}
 use Rattle.tables.proofs.Wrote.{said}
-use borrow.Author.Rules.{rules}
 use Rattle.replica_line.proofs.put_maybe.Goals as goal
 
 pub returns-in_default : goal.returns-in_default

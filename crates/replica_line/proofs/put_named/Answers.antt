@@ -3,7 +3,6 @@ use mathlib.Core.Path.{refl}
 use native.Mathlib.Omega.{arith}
 use Rattle.tables.proofs.Wrote.{then, said}
 use Rattle.replica_line.proofs.Rows.{field_is}
-use borrow.Author.Rules.{rules}
 use Rattle.replica_line.proofs.put_named.Goals as goal
 
 pub returns : goal.returns

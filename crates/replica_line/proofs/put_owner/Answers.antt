@@ -3,7 +3,6 @@ use native.Mathlib.Omega.{arith}
 use Rattle.tables.proofs.Wrote.{then, said}
 use Rattle.replica_line.specs.Lines.{replica_word}
 use Rattle.replica_line.proofs.Rows.{spaced_after}
-use borrow.Author.Rules.{rules}
 use Rattle.replica_line.proofs.put_owner.Goals as goal
 
 pub returns : goal.returns

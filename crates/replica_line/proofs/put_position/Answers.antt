@@ -3,7 +3,6 @@ use mathlib.Core.List.{[], ◌∷◌}
 use native.Mathlib.Omega.{arith}
 use Rattle.tables.proofs.Wrote.{then, said}
 use Rattle.replica_line.proofs.Rows.{spaced_groups, boundary_is}
-use borrow.Author.Rules.{rules}
 use Rattle.replica_line.proofs.put_position.Goals as goal
 
 pub returns : goal.returns

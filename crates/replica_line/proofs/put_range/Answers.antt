@@ -5,7 +5,6 @@ use Rattle.view.specs.Meaning.{lsn_of}
 use Rattle.tables.proofs.Wrote.{then, said}
 use Rattle.replica_line.specs.Lines.{log_word}
 use Rattle.replica_line.proofs.Rows.{field_is, row_5}
-use borrow.Author.Rules.{rules}
 use Rattle.replica_line.proofs.put_range.Goals as goal
 
 pub returns : goal.returns

@@ -6,7 +6,6 @@ use Rattle.tables.proofs.Wrote.{said}
 use Rattle.tables.proofs.Lines.{count_row}
 use Rattle.state_tables.specs.Lines.{foreign_word, appended_word, repeated_word, replaced_word}
 use Rattle.state_tables.proofs.Rows.{word_row}
-use borrow.Author.Rules.{rules}
 use Rattle.state_tables.proofs.put_answer.Goals as goal
 
 pub returns-in-Counted : goal.returns-in-Counted

@@ -4,7 +4,6 @@ use native.Mathlib.Omega.{arith}
 use lib.ListN.{drop}
 use Rattle.tables.proofs.Wrote.{then, said}
 use Rattle.state_tables.proofs.Rows.{cell_short, command_row}
-use borrow.Author.Rules.{rules}
 use Rattle.state_tables.proofs.put_command.Goals as goal
 
 pub put_hex-b-requires : goal.put_hex-b-requires

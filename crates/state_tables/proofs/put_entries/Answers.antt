@@ -1,13 +1,9 @@
 -- `state_tables::put_entries` meets its contract. The invariant: the lines of the first q entries are written.
 use mathlib.Core.Path.{◌≡◌, refl, ◌∙◌}
-use Prim.Native.Nat.{◌≤◌, ◌-◌, ◌*◌}
 use native.Mathlib.Omega.{arith}
-use lib.ListN.{length}
 use Rattle.storage.specs.Model.{head_at}
-use Rattle.tables.specs.Model.{lines_to, len_of, Wrote}
+use Rattle.tables.specs.Model.{len_of}
 use Rattle.tables.proofs.Wrote.{begin, more, said}
-use Rattle.state_tables.specs.Model.{place_in}
-use borrow.Author.Rules.{rules}
 use Rattle.state_tables.proofs.put_entries.Goals as goal
 
 pub loop-q-init : goal.loop-q-init

@@ -2,7 +2,6 @@
 use native.Mathlib.Omega.{arith}
 use Rattle.tables.proofs.Wrote.{then, said}
 use Rattle.state_tables.proofs.Rows.{entry_row}
-use borrow.Author.Rules.{rules}
 use Rattle.state_tables.proofs.put_entry.Goals as goal
 
 pub returns : goal.returns

@@ -3,7 +3,6 @@ use native.Mathlib.Omega.{arith}
 use Rattle.tables.proofs.Wrote.{said}
 use Rattle.state_tables.specs.Lines.{hard_state_word, pointer_word}
 use Rattle.state_tables.proofs.Rows.{word_row}
-use borrow.Author.Rules.{rules}
 use Rattle.state_tables.proofs.put_kept.Goals as goal
 
 pub returns-in_default : goal.returns-in_default

@@ -2,7 +2,6 @@
 use mathlib.Core.Path.{refl}
 use native.Mathlib.Omega.{arith}
 use Rattle.tables.proofs.Wrote.{said}
-use borrow.Author.Rules.{rules}
 use Rattle.state_tables.proofs.put_maybe_pointer.Goals as goal
 
 pub returns-in_default : goal.returns-in_default

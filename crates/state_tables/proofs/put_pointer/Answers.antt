@@ -3,7 +3,6 @@ use native.Mathlib.Omega.{arith}
 use Rattle.codec.specs.Records.{pointer_of}
 use Rattle.tables.proofs.Wrote.{then, said}
 use Rattle.state_tables.proofs.Rows.{pointer_row}
-use borrow.Author.Rules.{rules}
 use Rattle.state_tables.proofs.put_pointer.Goals as goal
 
 pub returns : goal.returns

@@ -3,7 +3,6 @@ use mathlib.Core.Path.{refl}
 use native.Mathlib.Omega.{arith}
 use Rattle.tables.proofs.Wrote.{then, said}
 use Rattle.state_tables.specs.Model.{replica_in}
-use borrow.Author.Rules.{rules}
 use Rattle.state_tables.proofs.put_replica.Goals as goal
 
 pub returns : goal.returns

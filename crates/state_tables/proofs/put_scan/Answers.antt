@@ -4,7 +4,6 @@ use Rattle.tables.proofs.Wrote.{then, said}
 use Rattle.state_tables.specs.Lines.{scanned_word, last_word}
 use Rattle.replica_line.proofs.Rows.{field_is}
 use Rattle.state_tables.proofs.Rows.{row_4}
-use borrow.Author.Rules.{rules}
 use Rattle.state_tables.proofs.put_scan.Goals as goal
 
 pub returns : goal.returns

@@ -1,12 +1,8 @@
 -- `state_tables::write_state` meets its contract. The invariant: the first p replicas are written.
 use mathlib.Core.Path.{◌≡◌, refl, ◌∙◌}
-use Prim.Native.Nat.{◌≤◌, ◌-◌, ◌*◌}
 use native.Mathlib.Omega.{arith}
-use lib.ListN.{length}
-use Rattle.tables.specs.Model.{lines_to, Wrote}
 use Rattle.tables.proofs.Wrote.{begin, more, then, said, printed}
-use Rattle.state_tables.specs.Model.{replica_in, state_in}
-use borrow.Author.Rules.{rules}
+use Rattle.state_tables.specs.Model.{state_in}
 use Rattle.state_tables.proofs.write_state.Goals as goal
 
 pub loop-p-init : goal.loop-p-init

@@ -1,12 +1,9 @@
 -- `state_tables::write_state` meets its contract. The invariant: the first p replicas are written.
-use mathlib.Core.Path.{◌≡◌, refl, ◌∙◌}
+use mathlib.Core.Path.{◌≡◌}
 use Prim.Native.Nat.{◌≤◌, ◌-◌, ◌*◌}
-use native.Mathlib.Omega.{arith}
 use lib.ListN.{length}
 use Rattle.tables.specs.Model.{lines_to, Wrote}
-use Rattle.tables.proofs.Wrote.{begin, more, then, said, printed}
-use Rattle.state_tables.specs.Model.{replica_in, state_in}
-use borrow.Author.Rules.{rules}
+use Rattle.state_tables.specs.Model.{replica_in}
 use Rattle.state_tables.proofs.write_state.Given as goal
 
 abbrev pub invariant-loop-p : goal.invariant-loop-p

@@ -6,7 +6,6 @@ use Rattle.replay.specs.Plan.{answer_of}
 use Rattle.tables.proofs.Wrote.{then, said}
 use Rattle.state_tables.specs.Model.{kept_in}
 use Rattle.state_tables.proofs.Rows.{step_row, no_room, with_room}
-use borrow.Author.Rules.{rules}
 use Rattle.state_tables.proofs.write_step.Goals as goal
 
 pub returns-then-out-at : goal.returns-then-out-at

@@ -1,12 +1,7 @@
 -- `tables::count_entries` meets its contract. The invariant: the entries of the first p places are counted.
 use mathlib.Core.Path.{◌≡◌, sym}
-use Prim.Native.Nat.{◌≤◌, ◌-◌, ◌*◌}
 use native.Mathlib.Omega.{arith}
-use lib.ListN.{get_or}
-use Rattle.storage.specs.Model.{no_header}
-use Rattle.tables.specs.Model.{sum_to, len_of}
 use Rattle.tables.proofs.Wrote.{sum_none, sum_step}
-use borrow.Author.Rules.{rules}
 use Rattle.tables.proofs.count_entries.Goals as goal
 
 pub loop-p-init : goal.loop-p-init

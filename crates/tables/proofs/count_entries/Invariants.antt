@@ -1,12 +1,9 @@
 -- `tables::count_entries` meets its contract. The invariant: the entries of the first p places are counted.
-use mathlib.Core.Path.{◌≡◌, sym}
+use mathlib.Core.Path.{◌≡◌}
 use Prim.Native.Nat.{◌≤◌, ◌-◌, ◌*◌}
-use native.Mathlib.Omega.{arith}
 use lib.ListN.{get_or}
 use Rattle.storage.specs.Model.{no_header}
 use Rattle.tables.specs.Model.{sum_to, len_of}
-use Rattle.tables.proofs.Wrote.{sum_none, sum_step}
-use borrow.Author.Rules.{rules}
 use Rattle.tables.proofs.count_entries.Given as goal
 
 abbrev pub invariant-loop-p : goal.invariant-loop-p

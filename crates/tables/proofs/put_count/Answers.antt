@@ -2,7 +2,6 @@
 use mathlib.Core.Path.{refl}
 use native.Mathlib.Omega.{arith}
 use Rattle.tables.proofs.Wrote.{then, said}
-use borrow.Author.Rules.{rules}
 use Rattle.tables.proofs.put_count.Goals as goal
 
 pub returns : goal.returns

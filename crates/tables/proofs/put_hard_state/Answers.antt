@@ -3,7 +3,6 @@ use native.Mathlib.Omega.{arith}
 use Rattle.codec.specs.Records.{hard_state_of}
 use Rattle.tables.proofs.Wrote.{then, said}
 use Rattle.tables.proofs.Lines.{hard_row}
-use borrow.Author.Rules.{rules}
 use Rattle.tables.proofs.put_hard_state.Goals as goal
 
 pub returns : goal.returns

@@ -3,7 +3,6 @@ use native.Mathlib.Omega.{arith}
 use Rattle.tables.specs.Tables.{replicas_word, entries_word}
 use Rattle.tables.proofs.Wrote.{then, said}
 use Rattle.tables.proofs.Lines.{count_row}
-use borrow.Author.Rules.{rules}
 use Rattle.tables.proofs.put_heads.Goals as goal
 
 pub returns : goal.returns

@@ -1,7 +1,6 @@
 -- `tables::put_identity` meets its contract.
 use native.Mathlib.Omega.{arith}
 use Rattle.tables.proofs.Wrote.{then}
-use borrow.Author.Rules.{rules}
 use Rattle.tables.proofs.put_identity.Goals as goal
 
 pub returns : goal.returns

@@ -1,13 +1,10 @@
 -- `tables::put_log` meets its contract. The invariant: the lines of the first q entries are written.
-use mathlib.Core.Path.{◌≡◌, refl, ◌∙◌}
+use mathlib.Core.Path.{◌≡◌}
 use Prim.Native.Nat.{◌≤◌, ◌-◌, ◌*◌, ◌+◌}
-use native.Mathlib.Omega.{arith}
 use lib.ListN.{length, get_or}
 use Rattle.view.specs.Meaning.{no_entry}
 use Rattle.storage.specs.Model.{head_at}
-use Rattle.tables.specs.Model.{lines_to, len_of, place_line, Wrote}
-use Rattle.tables.proofs.Wrote.{begin, more, said}
-use borrow.Author.Rules.{rules}
+use Rattle.tables.specs.Model.{lines_to, place_line, Wrote}
 use Rattle.tables.proofs.put_log.Given as goal
 
 abbrev pub invariant-loop-q : goal.invariant-loop-q

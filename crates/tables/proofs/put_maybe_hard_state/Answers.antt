@@ -2,7 +2,6 @@
 use native.Mathlib.Omega.{arith}
 use Rattle.tables.proofs.Wrote.{said}
 use Rattle.tables.proofs.Lines.{no_hard_row}
-use borrow.Author.Rules.{rules}
 use Rattle.tables.proofs.put_maybe_hard_state.Goals as goal
 
 pub returns-in_default : goal.returns-in_default

@@ -1,7 +1,6 @@
 -- `tables::put_number` meets its contract: the digits are the fewest that hold the number, and these are the definition's.
 use Prim.Native.Nat.{◌≤◌}
 use native.Mathlib.Omega.{arith}
-use borrow.Author.Rules.{rules}
 use Rattle.tables.proofs.Digits.{at_most_20}
 use Rattle.tables.proofs.Wrote.{number_put}
 use Rattle.tables.proofs.put_number.Goals as goal

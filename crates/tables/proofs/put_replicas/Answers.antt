@@ -1,12 +1,7 @@
 -- `tables::put_replicas` meets its contract. The invariant: the lines of the first p places are written.
 use mathlib.Core.Path.{◌≡◌, refl, ◌∙◌}
-use Prim.Native.Nat.{◌≤◌, ◌-◌, ◌*◌}
 use native.Mathlib.Omega.{arith}
-use lib.ListN.{length, get_or}
-use Rattle.storage.specs.Model.{no_header}
-use Rattle.tables.specs.Model.{lines_to, head_line, Wrote}
 use Rattle.tables.proofs.Wrote.{begin, more, said}
-use borrow.Author.Rules.{rules}
 use Rattle.tables.proofs.put_replicas.Goals as goal
 
 pub loop-p-init : goal.loop-p-init

@@ -2,7 +2,6 @@
 use native.Mathlib.Omega.{arith}
 use Rattle.tables.proofs.Wrote.{then, said, printed}
 use Rattle.tables.proofs.Lines.{malformed_row}
-use borrow.Author.Rules.{rules}
 use Rattle.tables.proofs.write_malformed.Goals as goal
 
 pub returns : goal.returns

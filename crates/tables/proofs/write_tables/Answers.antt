@@ -1,11 +1,8 @@
 -- `tables::write_tables` meets its contract. The invariant: the entries of the first p replicas are written.
 use mathlib.Core.Path.{◌≡◌, refl, ◌∙◌}
-use Prim.Native.Nat.{◌≤◌, ◌-◌, ◌*◌}
 use native.Mathlib.Omega.{arith}
-use lib.ListN.{length}
-use Rattle.tables.specs.Model.{lines_to, log_lines, tables_of, Wrote}
+use Rattle.tables.specs.Model.{tables_of}
 use Rattle.tables.proofs.Wrote.{begin, more, then, said, printed}
-use borrow.Author.Rules.{rules}
 use Rattle.tables.proofs.write_tables.Goals as goal
 
 pub loop-p-init : goal.loop-p-init

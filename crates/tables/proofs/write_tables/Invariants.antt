@@ -1,11 +1,8 @@
 -- `tables::write_tables` meets its contract. The invariant: the entries of the first p replicas are written.
-use mathlib.Core.Path.{◌≡◌, refl, ◌∙◌}
+use mathlib.Core.Path.{◌≡◌}
 use Prim.Native.Nat.{◌≤◌, ◌-◌, ◌*◌}
-use native.Mathlib.Omega.{arith}
 use lib.ListN.{length}
-use Rattle.tables.specs.Model.{lines_to, log_lines, tables_of, Wrote}
-use Rattle.tables.proofs.Wrote.{begin, more, then, said, printed}
-use borrow.Author.Rules.{rules}
+use Rattle.tables.specs.Model.{lines_to, log_lines, Wrote}
 use Rattle.tables.proofs.write_tables.Given as goal
 
 abbrev pub invariant-loop-p : goal.invariant-loop-p
