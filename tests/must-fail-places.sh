@@ -45,21 +45,16 @@ for path, text in texts.items():
 END
 }
 
-# FILE DECLARATION of each error of a log that is the declaration's own.
-own_errors() { # LOG
-    grep ': error: ' "$1" | grep -v 'was not admitted' | places
+# FILE DECLARATION of each error of a log that is the declaration's own, and of each goal without an answer that is not found proved; but
+# for errors of a kind.
+errors_of() { # LOG KINDS
+    grep -E ': error: |^note: `[^`]*` of [^ ]* must prove: ' "$1" | grep -vE "$2" | sed -nE \
+        -e 's#^(\./)?([^: ]*):[0-9]*:[0-9]*: error: `([^`]*)`: .*#\2 \3#p' \
+        -e 's#^note: `([^`]*)` of (\./)?([^ ]*) must prove: .*#\3 \1#p'
 }
-
-# The same but for errors of a kind.
-others() { # LOG KINDS
-    grep ': error: ' "$1" | grep -vE "$2" | places
-}
-no_fact='was not admitted|has no field|has no `|is not in scope|is no name|that can be named from here'
+passed_on='was not admitted'
+no_fact='was not admitted|has no field|: record `[^`]*` \(nearest|has no `|is not in scope|is no name|that can be named from here'
 rewrite='no occurrence of the path|has an instance in the goal|no part of the goal'
-
-places() {
-    sed -n 's|^\(\./\)\{0,1\}\([^: ]*\):[0-9]*:[0-9]*: error: `\([^`]*\)`: .*|\2 \3|p'
-}
 
 judge() { # EDIT LOG
     local expects errors facts firm expect broken unread
@@ -70,9 +65,9 @@ judge() { # EDIT LOG
         say "$1: not one 'file:' line for each '# expect:' line"
     fi
     grep -q '^logic=not-proved' "$2" || { say "$1 was not refused: '$(tail -n 1 "$2")'"; return; }
-    errors=$(own_errors "$2" || true)
-    facts=$(others "$2" "$no_fact" || true)
-    firm=$(others "$2" "$no_fact|$rewrite" || true)
+    errors=$(errors_of "$2" "$passed_on" || true)
+    facts=$(errors_of "$2" "$no_fact" || true)
+    firm=$(errors_of "$2" "$no_fact|$rewrite" || true)
     while IFS= read -r expect; do
         faults=$((faults + 1))
         if ! grep -qxF -- "$expect" <<<"$errors"; then
