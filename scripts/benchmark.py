@@ -72,9 +72,9 @@ def in_process(oracle, long, runs):
         rust = float(re.search(r'observe and finish only: .*\(([0-9.]+) us a journal\)', said).group(1)) * 1000 / 4096
         batch = float(re.search(r'([0-9.]+) us', text_of(f'{oracle}/oracle-bench-batch', '20000')).group(1)) * 1000
         for name, theirs, ours in (
-            ('observing and finishing', rust, rounds('target/bin/bench', '1 ', 9, 10 * 4096)),
-            ('one checked call', rust, rounds('target/bin/bench', '2 ', 1, 10 * 4096)),
-            ('a batch of 32', batch, rounds('target/bin/bench_batch', '', 9, 1000)),
+            ('observing and finishing', rust, rounds('crates/bench/out/bench', '1 ', 9, 10 * 4096)),
+            ('one checked call', rust, rounds('crates/bench/out/bench', '2 ', 1, 10 * 4096)),
+            ('a batch of 32', batch, rounds('crates/bench_batch/out/bench_batch', '', 9, 1000)),
         ):
             times[name][0].append(theirs)
             times[name][1].append(ours)
@@ -86,7 +86,7 @@ def processes(oracle, short, long, runs):
     programs = {'nothing': ('/bin/true', short)}
     for size, path in ('short', short), ('long', long):
         programs[f'rust {size}'] = (f'{oracle}/oracle-recover', path)
-        programs[f'ours {size}'] = ('target/bin/recover', path)
+        programs[f'ours {size}'] = ('crates/recover/out/recover', path)
     times = {name: [] for name in programs}
     for _ in range(runs):
         for name, (program, path) in programs.items():
@@ -116,7 +116,7 @@ def main():
             open(path, 'w').write(journal(int(os.path.basename(path))))
         inside = in_process(oracle, long, given.runs)
         whole = processes(oracle, short, long, 5 * given.runs)
-        held = peak(f'{oracle}/oracle-recover', long), peak('target/bin/recover', long)
+        held = peak(f'{oracle}/oracle-recover', long), peak('crates/recover/out/recover', long)
     own = {name: t - whole['nothing'] for name, t in whole.items()}
     rows = [(name, 'ns a batch' if '32' in name else 'ns a record', *inside[name]) for name in inside]
     rows += [

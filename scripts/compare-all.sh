@@ -18,7 +18,7 @@ number=${1:-5000}
 [ $# -gt 0 ] || set -- 1 2 3
 
 compare() { # PROGRAM, then arguments of compare.sh
-    local program=$PWD/target/bin/$1
+    local program=$PWD/crates/$1/out/$1
     case $1 in
         recover) ORACLE_WORK=$work bash "$oracle/compare.sh" "$program" "${@:2}" ;;
         steps) STEPS=$program ORACLE_WORK=$work bash "$oracle/compare.sh" - "${@:2}" ;;
@@ -29,7 +29,7 @@ compare() { # PROGRAM, then arguments of compare.sh
 
 wrong=0
 for program in ${PROGRAMS:-recover steps batch checks}; do
-    [ -x "target/bin/$program" ] || { echo "compare-all: $program is not built: run rt check"; exit 1; }
+    [ -x "crates/$program/out/$program" ] || { echo "compare-all: $program is not built: run rt ci"; exit 1; }
     echo "== $program: $number inputs a kind, seeds $*"
     compare "$program" "$number" "$@" || wrong=1
 done

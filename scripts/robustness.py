@@ -121,7 +121,7 @@ def part(job):
     kinds, failed = collections.Counter(), []
     for i in range(runs):
         text = changed(rng, inputs)
-        status, answer = run([f'target/bin/{program}'], text, folder)
+        status, answer = run([f'crates/{program}/out/{program}'], text, folder)
         kinds[kind_of(answer)] += 1
         why = '' if status == 0 else f'status {status}'
         if not why and not form.fullmatch(answer):
@@ -130,7 +130,7 @@ def part(job):
             why = 'another answer than the original'
         if not why and every and i % every == 0:
             kinds['under valgrind'] += 1
-            status, _ = run(['valgrind', '--quiet', '--error-exitcode=99', f'target/bin/{program}'], text, folder)
+            status, _ = run(['valgrind', '--quiet', '--error-exitcode=99', f'crates/{program}/out/{program}'], text, folder)
             why = '' if status == 0 else f'valgrind: status {status}'
         if why:
             name = f'{folder}/{program}-{hashlib.sha1(text).hexdigest()[:12]}.txt'

@@ -10,7 +10,7 @@ say() { echo "answers: $*"; wrong=$((wrong + 1)); }
 
 same() { # PROGRAM NAME ANSWER, with the input on standard input
     count=$((count + 1))
-    cmp -s <("target/bin/$1") <(printf '%b' "$3") || say "$1: $2: another answer"
+    cmp -s <("crates/$1/out/$1") <(printf '%b' "$3") || say "$1: $2: another answer"
 }
 
 each() { # PROGRAM LEAST: at least so many inputs are stored
