@@ -15,7 +15,7 @@ say() { echo "must-fail-places: $*"; wrong=$((wrong + 1)); }
 room=$(mktemp -d)
 trap 'rm -rf "$room"' EXIT
 mkdir "$room/crates"
-tar -c --exclude=out crates crates.txt $(ls HANDLES 2>/dev/null || true) | tar -x -C "$room"
+tar -c --exclude=out --exclude=must-fail crates crates.txt $(ls HANDLES 2>/dev/null || true) | tar -x -C "$room"
 
 # A check of a crate of the copy, once more if it did not come to an end.
 check() { # CRATE LOG
@@ -64,7 +64,7 @@ judge() { # EDIT LOG
     if [ "$(wc -l <<<"$expects")" -gt 1 ] && [ "$(wc -l <<<"$expects")" -ne "$(grep -c '^file: ' "$1")" ]; then
         say "$1: not one 'file:' line for each '# expect:' line"
     fi
-    grep -q '^logic=not-proved' "$2" || { say "$1 was not refused: '$(tail -n 1 "$2")'"; return; }
+    grep -q '^logic=not-proved' "$2" || { say "$1: no proof was refused: '$(grep -m 1 -E 'error|^logic=' "$2")'"; return; }
     errors=$(errors_of "$2" "$passed_on" || true)
     facts=$(errors_of "$2" "$no_fact" || true)
     firm=$(errors_of "$2" "$no_fact|$rewrite" || true)
