@@ -2,7 +2,7 @@
 -- Assumes nothing.
 use Rattle.std.specs.Prelude.{ℕ, zero, suc, ◌+◌, ◌-◌, ◌≤◌, ◌≡◌, List, Bool, ◌&&◌, length, get_or, set}
 use Rattle.std.proofs.Math.Option.{Option, none, some}
-use Rattle.definition.specs.Table.{◌=?◌, ◌<?◌, ◌≤?◌, if◌then◌else◌, first_of, u64_max}
+use Rattle.definition.specs.Table.{◌=?◌, ◌<?◌, ◌≤?◌, if◌then◌else◌, first_of}
 use Rattle.definition.specs.Log as D
 use Rattle.ids.specs.declared.Lsn.{Lsn}
 use Rattle.ids.specs.declared.RaftReplicaIdentity.{RaftReplicaIdentity}
