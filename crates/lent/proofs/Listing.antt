@@ -8,7 +8,8 @@ use native.Mathlib.Omega.{arith}
 use borrow.Author.Tests.{leb-true, leb-false, ltb-true, ltb-false, lt-leb}
 use lib.Dec.{leb, ltb}
 use lib.ListN.{length, get_or, take, length-map}
-use Rattle.definition.specs.Table.{◌=?◌, refusal, if◌then◌else◌}
+use Rattle.std.specs.Prelude.{if◌then◌else◌}
+use Rattle.definition.specs.Table.{◌=?◌, refusal}
 use Rattle.definition.specs.Records as D
 use Rattle.definition.specs.Recovery.{replica_of, ask}
 use Rattle.definition.specs.Batch as M

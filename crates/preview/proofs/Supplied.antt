@@ -10,7 +10,8 @@ use Prim.Native.Nat.{ℕ, ◌+◌, ◌-◌, ◌<◌, ◌≤◌}
 use native.Mathlib.Omega.{arith}
 use borrow.Author.Tests.{eqb-true, leb-false, lt-ltb, not-false}
 use lib.ListN.{get_or, set}
-use Rattle.definition.specs.Table.{◌=?◌, ◌≤?◌, Row, ◌when◌, first_of, if◌then◌else◌, u64_max}
+use Rattle.std.specs.Prelude.{if◌then◌else◌}
+use Rattle.definition.specs.Table.{◌=?◌, ◌≤?◌, Row, ◌when◌, first_of, u64_max}
 use Rattle.definition.specs.Records.{Identity, unfit}
 use Rattle.definition.specs.Log as D
 use Rattle.definition.specs.Batch as M

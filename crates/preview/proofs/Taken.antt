@@ -8,7 +8,8 @@ use Prim.Native.Nat.{ℕ, ◌+◌, ◌-◌, ◌<◌, ◌≤◌}
 use native.Mathlib.Omega.{arith}
 use borrow.Author.Tests.{ltb-true, leb-false}
 use lib.ListN.{get_or, set}
-use Rattle.definition.specs.Table.{◌<?◌, if◌then◌else◌, u64_max}
+use Rattle.std.specs.Prelude.{if◌then◌else◌}
+use Rattle.definition.specs.Table.{◌<?◌, u64_max}
 use Rattle.definition.proofs.Laws.{clear}
 use Rattle.ids.specs.declared.Refusal.{Refusal}
 use Rattle.codec.specs.declared.RaftLogEntryRecord.{RaftLogEntryRecord}

@@ -11,7 +11,8 @@ use native.Mathlib.Omega.{arith}
 use native.Mathlib.Nat.{sub-zero}
 use borrow.Author.Tests.{eqb-true, leb-true, leb-false, lt-ltb, not-false}
 use lib.ListN.{length, get_or, set, length-set}
-use Rattle.definition.specs.Table.{◌=?◌, ◌≤?◌, Row, ◌when◌, first_of, if◌then◌else◌, u64_max}
+use Rattle.std.specs.Prelude.{if◌then◌else◌}
+use Rattle.definition.specs.Table.{◌=?◌, ◌≤?◌, Row, ◌when◌, first_of, u64_max}
 use Rattle.definition.specs.Records.{Identity, Kind, hard_state, pointer, unfit, form_rows}
 use Rattle.definition.specs.Log as D
 use Rattle.definition.specs.Recovery.{settled, judged}

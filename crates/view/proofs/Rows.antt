@@ -7,7 +7,8 @@ use mathlib.Core.Option.{Option, none, some, map}
 use Prim.Native.Nat.{ℕ, ◌<◌}
 use native.Mathlib.Omega.{arith}
 use borrow.Author.Tests.{eqb-true, ne_eqb}
-use Rattle.definition.specs.Table.{◌=?◌, ◌≠?◌, ◌<?◌, ◌≤?◌, Row, ◌when◌, first_of, is_some, if_some, if◌then◌else◌}
+use Rattle.std.specs.Prelude.{if◌then◌else◌}
+use Rattle.definition.specs.Table.{◌=?◌, ◌≠?◌, ◌<?◌, ◌≤?◌, Row, ◌when◌, first_of, is_some, if_some}
 use Rattle.definition.specs.Records.{Identity, LogEntry, same_payload, Kind, entry, hard_state, pointer}
 use Rattle.definition.specs.Log as D
 use Rattle.definition.specs.Recovery.{judged, settled}
