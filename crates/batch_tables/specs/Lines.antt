@@ -1,9 +1,9 @@
 -- What the program `batch` prints, as ASCII bytes: numbers in decimal, single spaces, and a newline at the end of each line. A record has
 -- the fields of a journal's line (document 01) without the LSN.
 -- Assumes nothing.
-use Rattle.std.specs.Prelude.{ℕ, suc, ◌+◌, ◌/◌, ◌%◌, Bool, true, false, List, [], ◌∷◌, ◌++◌}
+use Rattle.std.specs.Prelude.{ℕ, suc, ◌+◌, ◌/◌, ◌%◌, Bool, true, false, List, [], ◌∷◌, ◌++◌, if◌then◌else◌}
 use Rattle.std.proofs.Math.Option.{Option, none, some}
-use Rattle.definition.specs.Table.{◌<?◌, if◌then◌else◌, same_bytes}
+use Rattle.definition.specs.Table.{◌<?◌, same_bytes}
 use Rattle.definition.specs.Records.{Identity, Change, addLearner, promoteLearner, removeReplica, HardState, Checksum, Pointer}
 use Rattle.tables.specs.Tables.{decimal, row, refused_word, hard_fields}
 

@@ -8,7 +8,8 @@ use Prim.Native.Nat.{ℕ, ◌+◌, ◌<◌, ◌≤◌}
 use native.Mathlib.Omega.{arith}
 use borrow.Author.Tests.{eq-eqb, eqb-true}
 use lib.ListN.{length, length-append}
-use Rattle.definition.specs.Table.{◌=?◌, u64_max, if◌then◌else◌, every, same_bytes}
+use Rattle.std.specs.Prelude.{if◌then◌else◌}
+use Rattle.definition.specs.Table.{◌=?◌, u64_max, every, same_bytes}
 use Rattle.definition.specs.Records as D
 use Rattle.codec.specs.declared.ConfChangeKind.TheVariants as K
 use Rattle.codec.specs.declared.DurableRaftEntryPayload.{DurableRaftEntryPayload}

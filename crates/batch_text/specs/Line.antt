@@ -1,8 +1,8 @@
 -- What the code reads off a line of a batch. Fields 0 to count - 1 are closed, the last one is open.
 -- Assumes nothing.
-use Rattle.std.specs.Prelude.{ℕ, Bool, ◌&&◌, ◌||◌, List}
+use Rattle.std.specs.Prelude.{ℕ, Bool, ◌&&◌, ◌||◌, List, if◌then◌else◌}
 use Rattle.std.proofs.Math.Option.{Option, none, some}
-use Rattle.definition.specs.Table.{◌=?◌, u64_max, if◌then◌else◌}
+use Rattle.definition.specs.Table.{◌=?◌, u64_max}
 use Rattle.definition.specs.Records.{Identity, LogEntry}
 use Rattle.ids.specs.Identity.{identity_of}
 use Rattle.codec.specs.declared.ConfChangeKind.{ConfChangeKind}

@@ -1,7 +1,7 @@
 -- Which line may stand where: at most one pointer, then at most 64 entries, then at most one hard state, then at most 4,096 lines `show`.
 -- Assumes nothing.
-use Rattle.std.specs.Prelude.{ℕ, ◌+◌, Bool, true, false, not, ◌&&◌, set, replicate}
-use Rattle.definition.specs.Table.{◌=?◌, ◌<?◌, if◌then◌else◌}
+use Rattle.std.specs.Prelude.{ℕ, ◌+◌, Bool, true, false, not, ◌&&◌, set, replicate, if◌then◌else◌}
+use Rattle.definition.specs.Table.{◌=?◌, ◌<?◌}
 use Rattle.codec.specs.declared.HardState.{HardState}
 use Rattle.codec.specs.declared.RaftSnapshotPointerRecord.{RaftSnapshotPointerRecord}
 use Rattle.codec.specs.declared.MaybePointer.{MaybePointer}

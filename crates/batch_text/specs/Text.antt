@@ -1,8 +1,8 @@
 -- The lines of a batch, behind a journal. A line is its bytes, without the newline; fields, numbers and checksums are a journal's.
 -- Assumes nothing.
-use Rattle.std.specs.Prelude.{ℕ, ◌&&◌, List, [], ◌∷◌, length}
+use Rattle.std.specs.Prelude.{ℕ, ◌&&◌, List, [], ◌∷◌, length, if◌then◌else◌}
 use Rattle.std.proofs.Math.Option.{Option, none, some}
-use Rattle.definition.specs.Table.{◌=?◌, u64_max, if◌then◌else◌, same_bytes}
+use Rattle.definition.specs.Table.{◌=?◌, u64_max, same_bytes}
 use Rattle.definition.specs.Records.{Identity, Payload, LogEntry, HardState}
 use Rattle.definition.specs.Log.{PointerRecord}
 use Rattle.text.specs.Text.{u32_max, number, is_number, value, is_checksum, checksum, fields, nth, is_letter, is_vote, vote, command, change, changed}

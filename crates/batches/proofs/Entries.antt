@@ -8,7 +8,8 @@ use Prim.Native.Nat.{ℕ, suc, ◌<◌}
 use borrow.Author.Tests.{lt-ltb}
 use lib.ListN.{length, get_or, drop, get_elem?}
 use lib.Seq.{drop-cons}
-use Rattle.definition.specs.Table.{◌=?◌, if◌then◌else◌}
+use Rattle.std.specs.Prelude.{if◌then◌else◌}
+use Rattle.definition.specs.Table.{◌=?◌}
 use Rattle.definition.specs.Records as D
 use Rattle.ids.specs.declared.RaftReplicaIdentity.{RaftReplicaIdentity}
 use Rattle.codec.specs.declared.ConfChangeKind.TheVariants as K

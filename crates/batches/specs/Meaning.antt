@@ -1,7 +1,7 @@
 -- What a batch of the code means: the definition's batch. Its entries are arrays of numbers.
 -- Assumes nothing.
-use Rattle.std.specs.Prelude.{ℕ, List, get_or}
-use Rattle.definition.specs.Table.{◌=?◌, if◌then◌else◌}
+use Rattle.std.specs.Prelude.{ℕ, List, get_or, if◌then◌else◌}
+use Rattle.definition.specs.Table.{◌=?◌}
 use Rattle.definition.specs.Records as D
 use Rattle.definition.specs.Batch.{BatchEntry, Batch}
 use Rattle.ids.specs.declared.RaftReplicaIdentity.{RaftReplicaIdentity}

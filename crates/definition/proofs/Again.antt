@@ -7,7 +7,8 @@ use mathlib.Core.List.{List, [], ◌∷◌}
 use mathlib.Core.Option.{Option, none, some}
 use native.Mathlib.Omega.{arith}
 use borrow.Author.Tests.{le-ltb}
-use Rattle.definition.specs.Table.{◌=?◌, ◌<?◌, if◌then◌else◌}
+use Rattle.std.specs.Prelude.{if◌then◌else◌}
+use Rattle.definition.specs.Table.{◌=?◌, ◌<?◌}
 use Rattle.definition.specs.Records.{HardState}
 use Rattle.definition.specs.Log.{Log, finished, maximum_observed_term, normalized_to, normalized_hard_state, with_hard, normalize_hard_state_term}
 use Rattle.definition.specs.Recovery.{Held, held, out, State, Recovery, sound, normalized, normalized_state}

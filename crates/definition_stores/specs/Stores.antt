@@ -1,8 +1,8 @@
 -- The store: the bytes that records leave, stores that are not sound, and whole calls over a state with its store.
 -- Assumes nothing.
-use Rattle.std.specs.Prelude.{ℕ, ◌+◌, Bool, true, false, ◌&&◌, not, List, [], ◌∷◌, ◌++◌, length, replicate, take, drop, T}
+use Rattle.std.specs.Prelude.{ℕ, ◌+◌, Bool, true, false, ◌&&◌, not, List, [], ◌∷◌, ◌++◌, length, replicate, take, drop, T, if◌then◌else◌}
 use Rattle.std.proofs.Math.Option.{none, some}
-use Rattle.definition.specs.Table.{◌=?◌, every, Result, ok, refusal, if◌then◌else◌, u64_max, same_bytes}
+use Rattle.definition.specs.Table.{◌=?◌, every, Result, ok, refusal, u64_max, same_bytes}
 use Rattle.definition.specs.Records.{Payload, normal, configuration, addLearner, inside, entry, pointer, Record, form_rows}
 use Rattle.definition.specs.Log.{Answer, appended, kept, finished, refused, empty, base, count, snapshot_boundary, last_index, last, place, at, is_held, predecessor_term, same_term, same_content, hard_state_successor_rows, snapshot_successor_rows, replay_rows, install_rows, rows, answer_to, placed, with_entry, with_hard_state, beyond, raised_by, with_pointer, accept, largest_term, maximum_observed_term, normalized_to, normalized_hard_state, with_hard, normalize_hard_state_term}
 use Rattle.definition.specs.Recovery.{held, State, Recovery, fresh_state, fresh, lookup, put, keep, ascending, judged, settled, admitted, visit, log_clauses, kept_lsns, held_clauses, state_clauses, sound_state, pad_to, block, layout, sound_store, sound, scan, routed, guarded, observe_state, normalized, normalized_state, finish_state, stored, with_store, observe, finish, answers, observe_until_refused, ask, place_of, replica_of}

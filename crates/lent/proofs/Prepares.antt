@@ -9,7 +9,8 @@ use native.Mathlib.Omega.{arith}
 use borrow.Author.Tests.{lt-ltb, leb-true, leb-false}
 use lib.Dec.{leb}
 use lib.ListN.{length, take, length-map}
-use Rattle.definition.specs.Table.{◌=?◌, ◌<?◌, or_zero, Row, ◌when◌, first_of, Result, ok, refusal, if◌then◌else◌}
+use Rattle.std.specs.Prelude.{if◌then◌else◌}
+use Rattle.definition.specs.Table.{◌=?◌, ◌<?◌, or_zero, Row, ◌when◌, first_of, Result, ok, refusal}
 use Rattle.definition.specs.Records as D
 use Rattle.definition.specs.Log.{Log}
 use Rattle.definition.specs.Recovery.{Recovery, replica_of, ask}

@@ -3,14 +3,14 @@
 use mathlib.Core.Path.{◌≡◌, refl, sym, ap, subst, ◌∙◌}
 use mathlib.Core.Bool.{Bool, true, false, true≢false}
 use mathlib.Core.Logic.{inl, inr}
-use mathlib.Core.List.{List, [], ◌∷◌, ◌++◌, map, map-append}
-use mathlib.Core.Option.{Option, none, some}
+use mathlib.Core.List.{List, ◌∷◌, ◌++◌, map-append}
+use mathlib.Core.Option.{none, some}
 use Prim.Native.Nat.{ℕ, zero, suc, ◌+◌, ◌≤◌}
 use native.Mathlib.Omega.{arith}
-use lib.ListN.{length, get_or, take, length-replicate}
+use lib.ListN.{length, get_or}
 use Rattle.definition.specs.Table.{Result, ok, refusal, u64_max}
 use Rattle.definition.specs.Records as D
-use Rattle.definition.specs.Recovery.{replica_of, sound}
+use Rattle.definition.specs.Recovery.{replica_of}
 use Rattle.definition.specs.Batch as M
 use Rattle.definition.proofs.Laws.{none_some}
 use Rattle.ids.specs.declared.RaftReplicaIdentity.{RaftReplicaIdentity}
@@ -27,25 +27,22 @@ use Rattle.codec.specs.Records.{body_of, maybe_pointer_of, maybe_hard_state_of}
 use Rattle.view.specs.Tab.{tab}
 use Rattle.storage.specs.declared.RecoveredRaftStorage.{RecoveredRaftStorage}
 use Rattle.storage.specs.Meaning.{meaning, recovery_of}
-use Rattle.soundness.specs.Sound.{sound_test}
 use Rattle.readers.specs.declared.Own.{Own}
 use Rattle.readers.specs.Own.{Passes}
 use Rattle.readers.proofs.Answers.{test_failed}
 use Rattle.readers.proofs.Owns.{Owns}
-use Rattle.batches.specs.declared.BatchEntries.{BatchEntries}
 use Rattle.batches.specs.declared.RaftPersistenceBatch.{RaftPersistenceBatch}
 use Rattle.batches.specs.Meaning.{entry_at, entries_of, batch_of}
 use Rattle.batches.proofs.Entries.{record_kind}
 use Rattle.preview.specs.declared.Extended.{Extended}
 use Rattle.preview.specs.declared.Prepared.{Prepared}
-use Rattle.preview.specs.declared.Prepared.TheVariants as P
 use Rattle.preview.specs.Preview.{prepared_of, Ran, ran_of}
 use Rattle.preview.specs.Extends.{records_of}
 use Rattle.persistence.specs.Prepares as R
 use Rattle.persistence.specs.Tries.{tried_on}
 use Rattle.persistence.specs.declared.PreparedRecord.{PreparedRecord}
 use Rattle.persistence.specs.declared.PreparedBatch.{PreparedBatch}
-use Rattle.persistence.specs.Answer.{blank, blanks, pointer_records, pointer_count, hard_state_records, hard_state_count, entry_record, entry_records, records_in, prepared_with, refused_with, answer_with, bodies_of, answer_of, said_by, bodies_in, PreparesBatch}
+use Rattle.persistence.specs.Answer.{blanks, pointer_records, hard_state_records, entry_record, entry_records, records_in, prepared_with, refused_with, answer_with, bodies_of, answer_of, said_by, bodies_in, PreparesBatch}
 use Rattle.persistence.proofs.Recorded.{pointer_few, hard_state_few, records_length}
 use Rattle.persistence.proofs.Tried.{tried, prepare_sound, prepare_unsound}
 

@@ -2,7 +2,7 @@
 -- Assumes nothing.
 use mathlib.Core.Path.{◌≡◌, refl, sym, ap, subst, ◌∙◌}
 use mathlib.Core.List.{List, [], ◌∷◌, ◌++◌}
-use mathlib.Core.Option.{Option, none, some}
+use mathlib.Core.Option.{Option, none}
 use Prim.Native.Nat.{ℕ, ◌+◌, ◌<◌, ◌≤◌}
 use native.Mathlib.Omega.{arith}
 use borrow.Author.Tests.{leb-false, ltb-false}
@@ -35,7 +35,7 @@ use Rattle.preview.specs.declared.Extended.{Extended}
 use Rattle.preview.specs.declared.Prepared.{Prepared}
 use Rattle.preview.specs.declared.Prepared.TheVariants as P
 use Rattle.preview.specs.declared.Preview.{Preview}
-use Rattle.batches.specs.Checks.{lsn_exhausted, pointer_form_rows, placed_rows, pointer_rows, hard_state_rows, term_rows}
+use Rattle.batches.specs.Checks.{lsn_exhausted, pointer_form_rows, pointer_rows, hard_state_rows, term_rows}
 use Rattle.batches.specs.Meaning.{entries_of, batch_of}
 use Rattle.preview.specs.Preview.{prepared_of, Ran, ran_of, ran, formed_by, onward, extend_from, Sits}
 use Rattle.persistence.specs.Prepare.{held_at, moved_down, pointed_with, point_ran, hard_header, hardened_with, harden_ran, conclude_ran, point_in, harden_in, followed, lastly_ran, entries_ran, pointed_ran, prepare_ran}

@@ -39,7 +39,7 @@ use Rattle.batches.specs.declared.RaftPersistenceBatch.{RaftPersistenceBatch}
 use Rattle.preview.specs.declared.Preview.{Preview}
 use Rattle.batches.specs.Checks.{pointer_rows, hard_state_rows, term_rows}
 use Rattle.batches.specs.Meaning.{entries_of, batch_of}
-use Rattle.preview.specs.Preview.{Ran, ran, formed_by, onward, extend_from, Sits}
+use Rattle.preview.specs.Preview.{Ran, ran, formed_by, onward, extend_from}
 use Rattle.preview.specs.Extends.{records_of, Ends, Extends}
 use Rattle.persistence.specs.Prepare.{held_at, pointed_with, point_ran, hardened_with, harden_ran, conclude_ran, point_in, harden_in, followed, lastly_ran, entries_ran, pointed_ran, beginning, prepare_ran}
 use Rattle.persistence.specs.Prepares.{Stands, Steps, pointer_records, hard_state_records, batch_records, Prepares}

@@ -2,22 +2,16 @@
 -- Assumes nothing.
 use mathlib.Core.Path.{◌≡◌, refl, sym, ap, subst, ◌∙◌}
 use mathlib.Core.Bool.{true, false}
-use mathlib.Core.List.{List, map}
+use mathlib.Core.List.{List}
 use mathlib.Core.Option.{Option, none, some}
 use Prim.Native.Nat.{ℕ, ◌+◌, ◌-◌, ◌*◌, ◌≤◌}
 use native.Mathlib.Omega.{arith}
-use borrow.Author.Rules.{elem_fits_field}
 use borrow.Author.Tests.{ltb-false}
-use mir.Val.{Val}
-use mir.Syntax.{w64}
-use denote.Shadow.{shadow}
-use denote.Array.{each}
-use denote.Plain.{UInt}
 use lib.ListN.{length, get_or, take, drop, replicate}
 use Rattle.definition.specs.Table.{Row, refusal, first_of, u64_max}
 use Rattle.definition.specs.Records.{Identity}
 use Rattle.definition.specs.Log as D
-use Rattle.definition.specs.Recovery.{Recovery, replica_of, sound, ask}
+use Rattle.definition.specs.Recovery.{Recovery, replica_of, sound}
 use Rattle.definition.specs.Batch as M
 use Rattle.definition.proofs.Laws.{clear, none_some}
 use Rattle.ids.specs.declared.RaftReplicaIdentity.{RaftReplicaIdentity}

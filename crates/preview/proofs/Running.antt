@@ -4,12 +4,12 @@ use mathlib.Core.Path.{◌≡◌, refl, sym, ap, ◌∙◌}
 use mathlib.Core.Bool.{Bool, true, false, ◌&&◌}
 use mathlib.Core.List.{List}
 use mathlib.Core.Option.{Option, none, some}
-use Prim.Native.Nat.{ℕ, zero, suc, ◌+◌, ◌-◌, ◌<◌, ◌≤◌}
+use Prim.Native.Nat.{ℕ, suc, ◌+◌, ◌-◌, ◌<◌, ◌≤◌}
 use native.Mathlib.Omega.{arith}
 use native.Mathlib.Numerals.{add-one}
-use borrow.Author.Tests.{eqb-true, eq-eqb, ne_eqb, leb-true, le-leb, lt-ltb, ltb-true}
+use borrow.Author.Tests.{eqb-true, eq-eqb, le-leb, lt-ltb}
 use lib.ListN.{length}
-use Rattle.definition.specs.Table.{◌=?◌, ◌<?◌, ◌≤?◌, if◌then◌else◌, first_of, u64_max}
+use Rattle.definition.specs.Table.{◌=?◌, ◌≤?◌, first_of, u64_max}
 use Rattle.ids.specs.declared.Checked.{Checked}
 use Rattle.ids.specs.declared.Checked.TheVariants as C
 use Rattle.ids.specs.declared.RaftReplicaIdentity.{RaftReplicaIdentity}

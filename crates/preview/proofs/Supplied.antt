@@ -10,7 +10,8 @@ use Prim.Native.Nat.{ℕ, ◌+◌, ◌-◌, ◌<◌, ◌≤◌}
 use native.Mathlib.Omega.{arith}
 use borrow.Author.Tests.{eqb-true, leb-false, lt-ltb, not-false}
 use lib.ListN.{get_or, set}
-use Rattle.definition.specs.Table.{◌=?◌, ◌≤?◌, Row, ◌when◌, first_of, if◌then◌else◌, u64_max}
+use Rattle.std.specs.Prelude.{if◌then◌else◌}
+use Rattle.definition.specs.Table.{◌=?◌, ◌≤?◌, Row, ◌when◌, first_of, u64_max}
 use Rattle.definition.specs.Records.{Identity, unfit}
 use Rattle.definition.specs.Log as D
 use Rattle.definition.specs.Batch as M
@@ -24,7 +25,7 @@ use Rattle.view.specs.declared.Header.{Header}
 use Rattle.view.specs.declared.Place.{Place}
 use Rattle.view.specs.declared.Place.TheVariants as Q
 use Rattle.view.specs.declared.RecoveredRaftLogEntry.{RecoveredRaftLogEntry}
-use Rattle.view.specs.Decisions.{answered, Tells, held_from, new_rows, replay_rows_of, accepted_as, replayed, replay_answer}
+use Rattle.view.specs.Decisions.{answered, Tells, held_from, new_rows, replay_rows_of, accepted_as, replayed}
 use Rattle.view.specs.Meaning.{no_entry, base_of, view_of, Means}
 use Rattle.view.specs.Readers.{last_of, place_of, at_place}
 use Rattle.view.proofs.Accepted.{refusing, past_first, when_appended, when_replaced, when_renewed}
@@ -33,7 +34,7 @@ use Rattle.view.proofs.Told.{predecessor_is, tells_none, tells_held}
 use Rattle.replay.specs.Plan.{look_of, existing_in, prior_in, Plan, entry_plan}
 use Rattle.replay.proofs.Settled.{look_held, passed, same_answer_lem, is_appended, is_replayed, accepted_replayed}
 use Rattle.preview.specs.declared.Preview.{Preview}
-use Rattle.batches.specs.Checks.{entry_form_rows, boundary_rows}
+use Rattle.batches.specs.Checks.{entry_form_rows}
 use Rattle.preview.specs.Preview.{spot_in, spot_of, refusal_in, Ran, written_by, plan_at, taken_at, formed_by, entry_ran, Sits}
 use Rattle.preview.specs.Extends.{Next}
 use Rattle.batches.proofs.Rows.{entry_rows}

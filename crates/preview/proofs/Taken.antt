@@ -3,12 +3,13 @@
 use mathlib.Core.Path.{◌≡◌, refl, sym, ap, ◌∙◌}
 use mathlib.Core.Bool.{Bool, true, false}
 use mathlib.Core.List.{List}
-use mathlib.Core.Option.{Option, none, some}
+use mathlib.Core.Option.{Option, none}
 use Prim.Native.Nat.{ℕ, ◌+◌, ◌-◌, ◌<◌, ◌≤◌}
 use native.Mathlib.Omega.{arith}
 use borrow.Author.Tests.{ltb-true, leb-false}
 use lib.ListN.{get_or, set}
-use Rattle.definition.specs.Table.{◌<?◌, if◌then◌else◌, first_of, u64_max}
+use Rattle.std.specs.Prelude.{if◌then◌else◌}
+use Rattle.definition.specs.Table.{◌<?◌, u64_max}
 use Rattle.definition.proofs.Laws.{clear}
 use Rattle.ids.specs.declared.Refusal.{Refusal}
 use Rattle.codec.specs.declared.RaftLogEntryRecord.{RaftLogEntryRecord}

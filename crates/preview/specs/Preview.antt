@@ -1,8 +1,8 @@
 -- The model of the entries of a batch on a preview: what one does, and what the rest of them do.
 -- Assumes nothing.
-use Rattle.std.specs.Prelude.{ℕ, zero, suc, ◌+◌, ◌-◌, ◌≤◌, ◌≡◌, List, Bool, ◌&&◌, length, get_or, set}
+use Rattle.std.specs.Prelude.{ℕ, zero, suc, ◌+◌, ◌-◌, ◌≤◌, ◌≡◌, List, Bool, ◌&&◌, length, get_or, set, if◌then◌else◌}
 use Rattle.std.proofs.Math.Option.{Option, none, some}
-use Rattle.definition.specs.Table.{◌=?◌, ◌<?◌, ◌≤?◌, if◌then◌else◌, first_of, u64_max}
+use Rattle.definition.specs.Table.{◌=?◌, ◌<?◌, ◌≤?◌, first_of}
 use Rattle.definition.specs.Log as D
 use Rattle.ids.specs.declared.Lsn.{Lsn}
 use Rattle.ids.specs.declared.RaftReplicaIdentity.{RaftReplicaIdentity}

@@ -1,8 +1,8 @@
 -- What a reader answers, and what its answer means.
 -- Assumes nothing.
-use Rattle.std.specs.Prelude.{◌≡◌, Bool, true, false, List, [], ℕ}
+use Rattle.std.specs.Prelude.{◌≡◌, Bool, true, false, List, [], ℕ, if◌then◌else◌}
 use Rattle.std.proofs.Math.Option.{Option, none, some, get_or}
-use Rattle.definition.specs.Table.{Result, ok, refusal, ◌<?◌, if◌then◌else◌}
+use Rattle.definition.specs.Table.{Result, ok, refusal, ◌<?◌}
 use Rattle.definition.specs.Records as D
 use Rattle.definition.specs.Log.{Entry, Log, place, at}
 use Rattle.definition.specs.Recovery.{Held, State, sound, ask, place_of, replica_of, replica_at, pad_to, command_bytes}

@@ -1,11 +1,11 @@
 -- What a turn settles, by the kind of its record.
 -- Assumes nothing.
 use mathlib.Core.Path.{◌≡◌, refl, sym, ap, subst, ◌∙◌}
-use mathlib.Core.List.{List, [], ◌∷◌}
+use mathlib.Core.List.{List}
 use mathlib.Core.Option.{none, some}
 use Prim.Native.Nat.{ℕ, ◌+◌, ◌-◌, ◌*◌, ◌<◌, ◌≤◌}
 use native.Mathlib.Omega.{arith}
-use lib.ListN.{length, get_or, set, take, drop}
+use lib.ListN.{length, get_or, take, drop}
 use Rattle.definition.specs.Table.{first_of}
 use Rattle.definition.specs.Log as D
 use Rattle.definition.specs.Recovery.{refusal_of}
@@ -30,7 +30,7 @@ use Rattle.replay.specs.Plan.{answer_of, index_of, look_of, decided, len_after, 
 use Rattle.storage.specs.declared.RecoveredRaftStorage.{RecoveredRaftStorage}
 use Rattle.storage.specs.declared.Scan.{Scan}
 use Rattle.storage.specs.Model.{no_header, head_at, bytes_in, scan_next, scanned_only, headed, with_head, changed_store}
-use Rattle.routing.specs.Observe.{Stepped, moved_entries, written, plan_at, settled_at}
+use Rattle.routing.specs.Observe.{written, plan_at, settled_at}
 use Rattle.recovery.proofs.Turn.{block_is}
 
 -- An entry, decided and written: another header is the plan's where it has the plan's number of entries.

@@ -12,7 +12,7 @@ use lib.ListN.{length, get_or, drop}
 use lib.Seq.{drop-cons, drop-length}
 use Rattle.definition.specs.Records.{Record}
 use Rattle.definition.specs.Log as D
-use Rattle.definition.specs.Recovery.{Out, out, Recovery, observe, refusal_of, Chunk, one_more, observe_until_refused, sound}
+use Rattle.definition.specs.Recovery.{Out, out, Recovery, observe, refusal_of, Chunk, one_more, observe_until_refused}
 use Rattle.codec.specs.declared.WalRecord.{WalRecord}
 use Rattle.codec.specs.Records.{record_of}
 use Rattle.storage.specs.declared.RecoveredRaftStorage.{RecoveredRaftStorage}

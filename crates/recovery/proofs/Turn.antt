@@ -20,7 +20,7 @@ use Rattle.storage.proofs.Place.{owners_set}
 use Rattle.storage.proofs.Finding.{Told, found_told, found_among}
 use Rattle.routing.specs.Observe.{Stepped, Ran, only_scanned, moved_entries, written, plan_at, settled_at}
 use Rattle.routing.proofs.Stepped.{owner_is, Drops, plan_drops, plan_keeps}
-use mathlib.Core.List.{List, [], ◌∷◌, ◌++◌, append_assoc}
+use mathlib.Core.List.{List, ◌++◌, append_assoc}
 use Rattle.definition.specs.Recovery.{refusal_of}
 use Rattle.replay.specs.declared.Observation.{Observation}
 use Rattle.replay.specs.declared.Observation.TheVariants as O

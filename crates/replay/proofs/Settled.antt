@@ -6,12 +6,13 @@ use mathlib.Core.Logic.{inl, inr}
 use mathlib.Core.List.{List, ◌∷◌}
 use mathlib.Core.Option
 use mathlib.Core.Option.{Option, none, some, map}
-use Prim.Native.Nat.{ℕ, zero, ◌+◌, ◌-◌, ◌<◌, ◌≤◌}
+use Prim.Native.Nat.{ℕ, ◌+◌, ◌-◌, ◌<◌, ◌≤◌}
 use native.Mathlib.Omega.{arith}
 use native.Mathlib.Nat.{sub-zero}
 use borrow.Author.Tests.{eqb-true, leb-true, leb-false, lt-ltb, not-false}
 use lib.ListN.{length, get_or, set, length-set}
-use Rattle.definition.specs.Table.{◌=?◌, ◌≤?◌, Row, ◌when◌, first_of, if◌then◌else◌, u64_max}
+use Rattle.std.specs.Prelude.{if◌then◌else◌}
+use Rattle.definition.specs.Table.{◌=?◌, ◌≤?◌, Row, ◌when◌, first_of, u64_max}
 use Rattle.definition.specs.Records.{Identity, Kind, hard_state, pointer, unfit, form_rows}
 use Rattle.definition.specs.Log as D
 use Rattle.definition.specs.Recovery.{settled, judged}
@@ -38,7 +39,7 @@ use Rattle.view.specs.Meaning.{no_entry, base_of, id_of, view_of, Means}
 use Rattle.view.specs.Model.{with_hard_state, with_pointer, covered_by, placed_entries, dropped_entries, dropped_bytes, renewed_entry}
 use Rattle.view.specs.Readers.{last_of, place_of, at_place}
 use Rattle.view.proofs.Accepted.{refusing, past_first, when_appended, when_replaced, when_renewed, hard_state_means, pointer_means}
-use Rattle.view.proofs.Readers.{at_is, Held, held_at_lem, place_next}
+use Rattle.view.proofs.Readers.{Held, held_at_lem, place_next}
 use Rattle.view.proofs.Rows.{entry_rows, entry_answer_lem, hard_state_rows_lem, pointer_rows_lem}
 use Rattle.view.proofs.Told.{term_at_is, predecessor_is, tells_none, tells_held}
 use Rattle.replay.specs.Plan.{index_of, look_of, existing_in, prior_in, held_term_in, Plan, entry_plan, unless_row, hard_state_plan, pointer_plan, plan_of, entries_after}

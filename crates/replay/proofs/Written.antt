@@ -9,7 +9,8 @@ use native.Mathlib.Omega.{arith}
 use borrow.Author.Tests.{lt-ltb, le-ltb, ltb-true}
 use lib.ListN.{length, length-append}
 use lib.Seq.{drop-length}
-use Rattle.definition.specs.Table.{◌<?◌, if◌then◌else◌, first_of}
+use Rattle.std.specs.Prelude.{if◌then◌else◌}
+use Rattle.definition.specs.Table.{◌<?◌, first_of}
 use Rattle.ids.specs.declared.Lsn.{Lsn}
 use Rattle.ids.specs.declared.Refusal.{Refusal}
 use Rattle.ids.specs.Identity.{identity_of}

@@ -1,9 +1,9 @@
 -- The model of what a record does to its replica: the answer, and what stands in the replica's places then. It looks at the
 -- header, at the entry places of its index and of the index before, and at the replica's block of the store.
 -- Assumes nothing.
-use Rattle.std.specs.Prelude.{◌≡◌, false, List, ℕ, ◌+◌, ◌-◌, ◌≤◌, length, set}
+use Rattle.std.specs.Prelude.{◌≡◌, false, List, ℕ, ◌+◌, ◌-◌, ◌≤◌, length, set, if◌then◌else◌}
 use Rattle.std.proofs.Math.Option.{Option, none, some}
-use Rattle.definition.specs.Table.{if◌then◌else◌, ◌<?◌, first_of}
+use Rattle.definition.specs.Table.{◌<?◌, first_of}
 use Rattle.definition.specs.Records.{unfit}
 use Rattle.definition.specs.Log as D
 use Rattle.ids.specs.declared.Lsn.{Lsn}

@@ -1,11 +1,11 @@
 -- The model of observing: one record, and a chunk of them. What is not said stays.
 -- Assumes nothing.
-use Rattle.std.specs.Prelude.{not, cond, List, [], ◌∷◌, map, ℕ, suc, ◌+◌, ◌-◌, ◌*◌, ltb, leb, get_or, set}
+use Rattle.std.specs.Prelude.{cond, List, [], ◌∷◌, map, ℕ, suc, ◌+◌, ◌-◌, ◌*◌, ltb, leb, get_or, set}
 use Rattle.std.proofs.Math.Option.{Option, none, some}
 use Rattle.definition.specs.Table.{◌≤?◌, Row, ◌when◌, first_of, if_some, u64_max}
 use Rattle.definition.specs.Records.{Record, form_rows}
 use Rattle.definition.specs.Log as D
-use Rattle.definition.specs.Recovery.{sound, observe, refusal_of, Recovery}
+use Rattle.definition.specs.Recovery.{observe, refusal_of, Recovery}
 use Rattle.ids.specs.declared.Lsn.{Lsn}
 use Rattle.store.specs.Splice.{part, splice}
 use Rattle.codec.specs.declared.RaftWalRecord.{RaftWalRecord}

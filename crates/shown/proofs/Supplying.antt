@@ -8,7 +8,8 @@ use native.Mathlib.Numerals.{add-one}
 use native.Mathlib.Omega.{arith}
 use lib.ListN.{length, get_or, drop}
 use lib.Seq.{drop-length}
-use Rattle.definition.specs.Table.{is_some, if◌then◌else◌}
+use Rattle.std.specs.Prelude.{if◌then◌else◌}
+use Rattle.definition.specs.Table.{is_some}
 use Rattle.definition.specs.Batch.{BatchEntry, supplied}
 use Rattle.batches.specs.declared.BatchEntries.{BatchEntries}
 use Rattle.batches.specs.Meaning.{entries_of}

@@ -1,8 +1,8 @@
 -- What is shown of a previewed index, and what it means.
 -- Assumes nothing.
-use Rattle.std.specs.Prelude.{◌≡◌, true, false, List, ℕ, ◌+◌, ◌*◌, get_or}
+use Rattle.std.specs.Prelude.{◌≡◌, true, false, List, ℕ, ◌+◌, ◌*◌, get_or, if◌then◌else◌}
 use Rattle.std.proofs.Math.Option.{Option, none, some}
-use Rattle.definition.specs.Table.{◌=?◌, if◌then◌else◌}
+use Rattle.definition.specs.Table.{◌=?◌}
 use Rattle.definition.specs.Recovery.{sound}
 use Rattle.definition.specs.Batch as M
 use Rattle.ids.specs.declared.RaftReplicaIdentity.{RaftReplicaIdentity}

@@ -2,18 +2,16 @@
 -- after it.
 -- Assumes nothing.
 use mathlib.Core.Path.{◌≡◌, refl, sym, ap, ◌∙◌}
-use mathlib.Core.Bool.{Bool, true, false, not, ◌&&◌, cond, and_assoc, beq}
+use mathlib.Core.Bool.{Bool, true, false, not, ◌&&◌, cond, and_assoc}
 use mathlib.Core.List.{List}
 use mathlib.Core.Option.{Option}
 use Prim.Native.Nat.{ℕ, zero, suc, ◌+◌, ◌-◌, ◌*◌, ◌<◌, ◌≤◌}
 use native.Mathlib.Numerals.{add-one}
 use native.Mathlib.Nat.{add-sub_cancel_left}
 use native.Mathlib.Omega.{arith}
-use borrow.Author.Tests.{le-leb, lt-leb}
-use lib.ListN.{length, get_or, take, drop, length-drop}
-use lib.Seq.{drop-drop, take_all}
+use lib.ListN.{length, get_or, take, drop}
+use lib.Seq.{drop-drop}
 use Rattle.definition.specs.Records.{before}
-use Rattle.definition.specs.Table.{◌≤?◌}
 use Rattle.store.specs.Splice.{part}
 use Rattle.store.proofs.Part.{length_part, get_d_part, part_part}
 use Rattle.store.specs.Zeros.{all_zero}

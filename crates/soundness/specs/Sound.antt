@@ -1,16 +1,15 @@
 -- The test of soundness, as it walks: the headers, the held entries and their cells, and zeros in the rest of each block and of
 -- the store. What it stands for: the definition's soundness of what state and store mean, and the limits that this cannot see.
 -- Assumes nothing.
-use Rattle.std.specs.Prelude.{◌≡◌, Bool, true, ◌&&◌, ◌||◌, List, [], ◌∷◌, ℕ, zero, suc, ◌+◌, ◌<◌, ◌≤◌, length, get_or, take, drop}
+use Rattle.std.specs.Prelude.{◌≡◌, Bool, true, ◌&&◌, List, [], ◌∷◌, ℕ, zero, suc, ◌<◌, ◌≤◌, length, get_or, take, drop}
 use Rattle.std.proofs.Math.Option.{Option}
-use Rattle.definition.specs.Table.{◌=?◌, ◌<?◌, ◌≤?◌, every, all_of, present, u64_max}
+use Rattle.definition.specs.Table.{◌=?◌, ◌<?◌, ◌≤?◌, all_of, u64_max}
 use Rattle.definition.specs.Records.{before}
-use Rattle.definition.specs.Recovery.{nonzero_identity, whole_boundary, pointers_boundary, boundarys_progress, nonzero_vote, reached_by, sound}
+use Rattle.definition.specs.Recovery.{sound}
 use Rattle.store.specs.Zeros.{all_zero}
-use Rattle.view.specs.declared.MaybeLsn.{MaybeLsn}
 use Rattle.view.specs.declared.Header.{Header}
 use Rattle.view.specs.declared.RecoveredRaftLogEntry.{RecoveredRaftLogEntry}
-use Rattle.view.specs.Meaning.{lsn_of, no_entry, size_of, log_of, id_of}
+use Rattle.view.specs.Meaning.{lsn_of, no_entry, size_of, id_of}
 use Rattle.clauses.specs.Clauses.{head_ok, entry_ok}
 use Rattle.storage.specs.declared.RecoveredRaftStorage.{RecoveredRaftStorage}
 use Rattle.storage.specs.Model.{no_header, head_at, entries_in}

@@ -11,7 +11,7 @@ use borrow.Author.Tests.{leb-true, leb-false, le-leb, lt-leb}
 use lib.Dec.{leb}
 use lib.ListN.{get_or, drop}
 use lib.Seq.{drop-drop}
-use Rattle.definition.specs.Table.{if◌then◌else◌}
+use Rattle.std.specs.Prelude.{if◌then◌else◌}
 use Rattle.definition.specs.Records.{Identity, same, before}
 use Rattle.definition.specs.Recovery.{lookup, place_of, ascending}
 use Rattle.ids.specs.declared.RaftReplicaIdentity.{RaftReplicaIdentity}

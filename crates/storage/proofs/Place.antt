@@ -9,7 +9,7 @@ use native.Mathlib.Omega.{arith}
 use borrow.Author.Tests.{ltb-true, ltb-false, eqb-true, eqb-false}
 use lib.Dec.{ltb, eqb}
 use lib.ListN.{length, get_or, set, take, drop}
-use Rattle.definition.specs.Table.{if◌then◌else◌}
+use Rattle.std.specs.Prelude.{if◌then◌else◌}
 use Rattle.definition.specs.Records.{Identity, same, before}
 use Rattle.definition.specs.Log as D
 use Rattle.definition.specs.Recovery.{Held, held, lookup, place_of, put, ascending, scan}

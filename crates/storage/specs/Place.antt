@@ -1,7 +1,6 @@
 -- Where a replica stands, or would: after the held places whose identities are before its own.
 -- Assumes nothing.
-use Rattle.std.specs.Prelude.{◌≡◌, true, false, List, map, ℕ, zero, suc, ◌<◌, ◌≤◌, get_or, drop}
-use Rattle.definition.specs.Table.{if◌then◌else◌}
+use Rattle.std.specs.Prelude.{◌≡◌, true, false, List, map, ℕ, zero, suc, ◌<◌, ◌≤◌, get_or, drop, if◌then◌else◌}
 use Rattle.definition.specs.Records.{Identity, before}
 use Rattle.ids.specs.declared.RaftReplicaIdentity.{RaftReplicaIdentity}
 use Rattle.ids.specs.Identity.{identity_of}

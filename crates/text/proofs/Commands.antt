@@ -10,7 +10,8 @@ use native.Mathlib.Omega.{arith}
 use borrow.Author.Tests.{eq-eqb, ne_eqb, lt-ltb, le-ltb, le-leb, lt-leb}
 use lib.ListN.{length, get_or, set, drop, drop_of_length-le, length-set}
 use lib.Seq.{drop-cons}
-use Rattle.definition.specs.Table.{◌=?◌, ◌<?◌, ◌≤?◌, if◌then◌else◌}
+use Rattle.std.specs.Prelude.{if◌then◌else◌}
+use Rattle.definition.specs.Table.{◌=?◌, ◌<?◌, ◌≤?◌}
 use Rattle.text.specs.Text.{hex_digit, is_hex}
 use Rattle.text.specs.Line.{piece, has_newline}
 use Rattle.text.specs.Command.{pushed_command, pushed_out, fed_command, fed_out, read_command}

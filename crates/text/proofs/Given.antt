@@ -9,7 +9,8 @@ use native.Mathlib.Omega.{arith}
 use borrow.Author.Tests.{ltb-true, leb-true, leb-false, le-leb, lt-leb}
 use lib.ListN.{length, get_or, take, drop, length-take}
 use lib.Seq.{get_or-take, drop-drop}
-use Rattle.definition.specs.Table.{◌<?◌, ◌≤?◌, if◌then◌else◌}
+use Rattle.std.specs.Prelude.{if◌then◌else◌}
+use Rattle.definition.specs.Table.{◌<?◌, ◌≤?◌}
 use Rattle.definition.specs.Records as D
 use Rattle.codec.specs.Records.{payload_of}
 use Rattle.text.specs.Text.{nth, command}

@@ -8,7 +8,8 @@ use Prim.Native.Nat.{ℕ, ◌+◌, ◌≤◌}
 use native.Mathlib.Omega.{arith}
 use borrow.Author.Tests.{eq-eqb, ne_eqb, eqb-true, eqb-false, leb-true, leb-false}
 use lib.ListN.{length, length-append}
-use Rattle.definition.specs.Table.{◌=?◌, ◌≤?◌, u64_max, if◌then◌else◌, is_some, or_zero, every, same_bytes}
+use Rattle.std.specs.Prelude.{if◌then◌else◌}
+use Rattle.definition.specs.Table.{◌=?◌, ◌≤?◌, u64_max, is_some, or_zero, every, same_bytes}
 use Rattle.text.specs.Text.{numeral, at_most, number, value, is_number, nth, header_line, commands_word, records_word}
 use Rattle.text.specs.Line.{blank_line, fed}
 use Rattle.text.specs.Record.{line_header, is_byte, pack_from, commands_head, records_head, maybe_count_of}

@@ -10,7 +10,8 @@ use native.Mathlib.Omega.{arith}
 use borrow.Author.Tests.{eq-eqb, ne_eqb, lt-ltb, le-ltb, le-leb, lt-leb, ltb-true, ltb-false, leb-true}
 use lib.ListN.{length, set, take, drop, length-set}
 use lib.Seq.{sets, sets-eq}
-use Rattle.definition.specs.Table.{◌<?◌, ◌≤?◌, if◌then◌else◌}
+use Rattle.std.specs.Prelude.{if◌then◌else◌}
+use Rattle.definition.specs.Table.{◌<?◌, ◌≤?◌}
 use Rattle.text.specs.Text.{hex_digit, is_hex, hex_bytes, with_byte, at_most_bytes, command_line}
 use Rattle.text.specs.Field.{counted}
 use Rattle.text.specs.Command.{blank_command, pushed_command, pushed_out, fed_command, fed_out, len_of, maybe_len_of}

@@ -10,7 +10,8 @@ use native.Mathlib.Omega.{arith}
 use borrow.Author.Tests.{eq-eqb, ne_eqb, lt-ltb, le-ltb}
 use lib.ListN.{length, get_or, set, drop, drop_of_length-le}
 use lib.Seq.{drop-cons, drop-drop}
-use Rattle.definition.specs.Table.{◌=?◌, if◌then◌else◌}
+use Rattle.std.specs.Prelude.{if◌then◌else◌}
+use Rattle.definition.specs.Table.{◌=?◌}
 use Rattle.text.specs.Field.{blank_field, blank_sum, counted, fed_field, fed_sum, word}
 use Rattle.text.specs.Line.{closed, extended, pushed, fed, piece, has_newline, line_of, stopped_at, read_line}
 use Rattle.text.specs.declared.line.Line.{Line}

@@ -8,7 +8,8 @@ use Prim.Native.Nat.{ℕ, suc, ◌+◌, ◌-◌, ◌*◌, ◌<◌, ◌≤◌}
 use native.Mathlib.Omega.{arith}
 use borrow.Author.Tests.{ne_eqb, lt-ltb, le-leb, lt-leb, ltb-true, ltb-false, leb-true, leb-false}
 use lib.ListN.{length}
-use Rattle.definition.specs.Table.{◌=?◌, ◌<?◌, ◌≤?◌, u64_max, if◌then◌else◌, is_some, or_zero}
+use Rattle.std.specs.Prelude.{if◌then◌else◌}
+use Rattle.definition.specs.Table.{◌=?◌, ◌<?◌, ◌≤?◌, u64_max, is_some, or_zero}
 use Rattle.text.specs.Text.{is_digit, numeral_from, at_most, numeral, is_number, value, is_letter, u32_max}
 use Rattle.text.specs.Field.{blank_field, pushed_field, fed_field}
 use Rattle.text.specs.Record.{number_field, version_field, letter_field, version_of}

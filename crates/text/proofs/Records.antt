@@ -9,7 +9,8 @@ use native.Mathlib.Omega.{arith}
 use borrow.Author.Tests.{eq-eqb, ne_eqb, eqb-true, eqb-false, ltb-true, ltb-false}
 use lib.ListN.{length, length-append}
 use lib.Seq.{get_or-append_seam}
-use Rattle.definition.specs.Table.{◌=?◌, ◌<?◌, u64_max, if◌then◌else◌, every}
+use Rattle.std.specs.Prelude.{if◌then◌else◌}
+use Rattle.definition.specs.Table.{◌=?◌, ◌<?◌, u64_max, every}
 use Rattle.definition.specs.Records as D
 use Rattle.codec.specs.declared.Vote.TheVariants as O
 use Rattle.codec.specs.declared.WalRecord.{WalRecord}

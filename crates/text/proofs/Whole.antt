@@ -8,7 +8,8 @@ use native.Mathlib.Omega.{arith}
 use borrow.Author.Tests.{lt-ltb, le-ltb, ltb-true, ltb-false, eqb-true, eqb-false}
 use lib.ListN.{length, get_or, set, length-append, length-set, get_or-replicate, get_or-append, get_or-eq_default}
 use lib.Seq.{get_or-set_same, get_or-set_other, get_or-append_seam}
-use Rattle.definition.specs.Table.{◌=?◌, ◌<?◌, if◌then◌else◌}
+use Rattle.std.specs.Prelude.{if◌then◌else◌}
+use Rattle.definition.specs.Table.{◌=?◌, ◌<?◌}
 use Rattle.text.specs.Text.{fields_from, fields, nth}
 use Rattle.text.specs.Field.{no_field, blank_field, blank_sum, fed_field, fed_sum}
 use Rattle.text.specs.Line.{blank_line, closed, extended, fed}

@@ -9,7 +9,8 @@ use native.Mathlib.Numerals.{add-one}
 use native.Mathlib.Omega.{arith}
 use borrow.Author.Tests.{eq-eqb, ne_eqb, lt-ltb, le-ltb, ltb-true, eqb-true}
 use lib.ListN.{length, take, drop, take-append-drop, length-take, length-drop}
-use Rattle.definition.specs.Table.{◌=?◌, if◌then◌else◌, every, same_bytes}
+use Rattle.std.specs.Prelude.{if◌then◌else◌}
+use Rattle.definition.specs.Table.{◌=?◌, every, same_bytes}
 use Rattle.text.specs.Text.{nth, fields_from}
 use Rattle.text.specs.Field.{blank_field, pushed_field, fed_field}
 use Rattle.text.specs.Record.{is_byte, pack_from}

@@ -1,8 +1,8 @@
 -- What the code keeps of a command line, and what it writes: each pair of hex digits is a byte, at most 65 of them from `at` on.
 -- Assumes nothing.
-use Rattle.std.specs.Prelude.{ℕ, ◌+◌, ◌*◌, ◌/◌, ◌%◌, true, false, not, ◌&&◌, List, [], ◌∷◌, length, set}
+use Rattle.std.specs.Prelude.{ℕ, ◌+◌, ◌*◌, ◌/◌, ◌%◌, true, false, not, ◌&&◌, List, [], ◌∷◌, length, set, if◌then◌else◌}
 use Rattle.std.proofs.Math.Option.{Option, none, some}
-use Rattle.definition.specs.Table.{◌=?◌, ◌<?◌, ◌≤?◌, if◌then◌else◌}
+use Rattle.definition.specs.Table.{◌=?◌, ◌<?◌, ◌≤?◌}
 use Rattle.text.specs.Text.{hex_digit, is_hex}
 use Rattle.text.specs.Field.{counted}
 use Rattle.text.specs.Line.{piece, has_newline}

@@ -1,7 +1,7 @@
 -- What the code keeps of a field, byte by byte.
 -- Assumes nothing.
-use Rattle.std.specs.Prelude.{ℕ, ◌+◌, ◌-◌, ◌*◌, ◌%◌, Bool, true, false, ◌&&◌, List, [], ◌∷◌, length}
-use Rattle.definition.specs.Table.{◌=?◌, ◌<?◌, ◌≤?◌, u64_max, if◌then◌else◌}
+use Rattle.std.specs.Prelude.{ℕ, ◌+◌, ◌-◌, ◌*◌, ◌%◌, Bool, true, false, ◌&&◌, List, [], ◌∷◌, length, if◌then◌else◌}
+use Rattle.definition.specs.Table.{◌=?◌, ◌<?◌, ◌≤?◌, u64_max}
 use Rattle.text.specs.Text.{is_digit, hex_digit}
 use Rattle.text.specs.declared.field.Field.{Field}
 use Rattle.text.specs.declared.field.Sum.{Sum}

@@ -1,7 +1,7 @@
 -- What the code keeps of a line: what it is so far, and what reading on makes of it.
 -- Assumes nothing.
-use Rattle.std.specs.Prelude.{ℕ, ◌+◌, Bool, true, false, List, [], ◌∷◌, length, replicate, set}
-use Rattle.definition.specs.Table.{◌=?◌, ◌<?◌, if◌then◌else◌}
+use Rattle.std.specs.Prelude.{ℕ, ◌+◌, Bool, true, false, List, [], ◌∷◌, length, replicate, set, if◌then◌else◌}
+use Rattle.definition.specs.Table.{◌=?◌, ◌<?◌}
 use Rattle.text.specs.Field.{blank_field, blank_sum, counted, pushed_field, pushed_sum}
 use Rattle.text.specs.declared.field.Field.{Field}
 use Rattle.text.specs.declared.field.Sum.{Sum}

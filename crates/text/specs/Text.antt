@@ -1,8 +1,8 @@
 -- The lines of a journal (document 01, 'The program `recover` reads standard input'). A line is its bytes, without the newline.
 -- Assumes nothing.
-use Rattle.std.specs.Prelude.{ℕ, ◌+◌, ◌-◌, ◌*◌, Bool, ◌&&◌, ◌||◌, List, [], ◌∷◌, ◌++◌, length, get_or, take, drop}
+use Rattle.std.specs.Prelude.{ℕ, ◌+◌, ◌-◌, ◌*◌, Bool, ◌&&◌, ◌||◌, List, [], ◌∷◌, ◌++◌, length, get_or, take, drop, if◌then◌else◌}
 use Rattle.std.proofs.Math.Option.{Option, none, some}
-use Rattle.definition.specs.Table.{◌=?◌, ◌<?◌, ◌≤?◌, u64_max, if◌then◌else◌, is_some, or_zero, every, same_bytes}
+use Rattle.definition.specs.Table.{◌=?◌, ◌<?◌, ◌≤?◌, u64_max, is_some, or_zero, every, same_bytes}
 use Rattle.definition.specs.Records.{Identity, Change, addLearner, promoteLearner, removeReplica, Payload, normal, inside, configuration, Checksum, Kind, entry, hard_state, pointer, foreign, raft, Record}
 
 -- 2^32 - 1, the largest version of a record.

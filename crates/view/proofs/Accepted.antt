@@ -8,7 +8,8 @@ use Prim.Native.Nat.{ℕ, ◌+◌, ◌-◌, ◌*◌, ◌<◌, ◌≤◌}
 use native.Mathlib.Omega.{arith}
 use borrow.Author.Tests.{eqb-true, eq-eqb, leb-false, not-false}
 use lib.ListN.{length, get_or, length-append, length-set}
-use Rattle.definition.specs.Table.{◌=?◌, Row, ◌when◌, first_of, if◌then◌else◌, u64_max}
+use Rattle.std.specs.Prelude.{if◌then◌else◌}
+use Rattle.definition.specs.Table.{◌=?◌, Row, ◌when◌, first_of, u64_max}
 use Rattle.definition.specs.Records.{LogEntry, same_payload, unfit}
 use Rattle.definition.specs.Log as D
 use Rattle.definition.proofs.Laws.{Clear, clear}

@@ -8,7 +8,8 @@ use Prim.Native.Nat.{ℕ, zero, suc, ◌+◌, ◌-◌, ◌<◌, ◌≤◌, pred}
 use native.Mathlib.Omega.{arith}
 use borrow.Author.Tests.{eqb-true, eqb-false, ltb-true, leb-true, ne_eqb}
 use lib.ListN.{get_or}
-use Rattle.definition.specs.Table.{◌=?◌, ◌<?◌, ◌≤?◌, or_zero, if◌then◌else◌, u64_max}
+use Rattle.std.specs.Prelude.{if◌then◌else◌}
+use Rattle.definition.specs.Table.{◌=?◌, ◌<?◌, ◌≤?◌, or_zero, u64_max}
 use Rattle.definition.specs.Log as D
 use Rattle.ids.specs.declared.Lsn.{Lsn}
 use Rattle.view.specs.declared.MaybeLsn.TheVariants as L

@@ -7,7 +7,8 @@ use mathlib.Core.Option.{Option, none, some, map}
 use Prim.Native.Nat.{ℕ, ◌<◌}
 use native.Mathlib.Omega.{arith}
 use borrow.Author.Tests.{eqb-true, ne_eqb}
-use Rattle.definition.specs.Table.{◌=?◌, ◌≠?◌, ◌<?◌, ◌≤?◌, Row, ◌when◌, first_of, is_some, if_some, if◌then◌else◌}
+use Rattle.std.specs.Prelude.{if◌then◌else◌}
+use Rattle.definition.specs.Table.{◌=?◌, ◌≠?◌, ◌<?◌, ◌≤?◌, Row, ◌when◌, first_of, is_some, if_some}
 use Rattle.definition.specs.Records.{Identity, LogEntry, same_payload, Kind, entry, hard_state, pointer}
 use Rattle.definition.specs.Log as D
 use Rattle.definition.specs.Recovery.{judged, settled}
@@ -69,8 +70,8 @@ module _ (h : Header) (es : List RecoveredRaftLogEntry) (cs : List ℕ) (f : Fit
       where
         go : (b : Bool) → (term =? e.term) ≡ b →
             first_of (
-              (26 when b && not (same_payload o.payload e.payload)) ∷
-              (27 when not b && e.index ≤? h.committed_index) ∷ (28 when false) ∷ (29 when false) ∷ (30 when false) ∷ (31 when not b && e.term <? prior) ∷ (32 when false) ∷ []
+            (26 when b && not (same_payload o.payload e.payload)) ∷
+            (27 when not b && e.index ≤? h.committed_index) ∷ (28 when false) ∷ (29 when false) ∷ (30 when false) ∷ (31 when not b && e.term <? prior) ∷ (32 when false) ∷ []
             )
             ≡ first_of ((26 when b && not same) ∷ (27 when not b && e.index ≤? h.committed_index) ∷ (31 when not b && e.term <? prior) ∷ [])
         go true z = rw (r (eqb-true term e.term z)) (first_under 26 (not same) _ _ refl)

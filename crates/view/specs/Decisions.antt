@@ -1,8 +1,8 @@
 -- The model of the decisions, on a header and small values, row by row in document 01's order; and what their answers mean.
 -- Assumes nothing.
-use Rattle.std.specs.Prelude.{Bool, ◌&&◌, not, List, [], ◌∷◌, ◌++◌, ℕ, ◌+◌, ◌-◌, ◌≡◌}
+use Rattle.std.specs.Prelude.{Bool, ◌&&◌, not, List, [], ◌∷◌, ◌++◌, ℕ, ◌+◌, ◌-◌, ◌≡◌, if◌then◌else◌}
 use Rattle.std.proofs.Math.Option.{Option, none, some, map}
-use Rattle.definition.specs.Table.{◌=?◌, ◌≠?◌, ◌<?◌, ◌≤?◌, Row, ◌when◌, first_of, if_some, if◌then◌else◌, u64_max}
+use Rattle.definition.specs.Table.{◌=?◌, ◌≠?◌, ◌<?◌, ◌≤?◌, Row, ◌when◌, first_of, if_some, u64_max}
 use Rattle.definition.specs.Records.{Identity, LogEntry, same_payload}
 use Rattle.definition.specs.Log as D
 use Rattle.ids.specs.Refusal.{number_of}

@@ -1,9 +1,9 @@
 -- What is read of a header, on its fields alone. The last index keeps to 64 bits, also where the header's limits do not.
 -- Assumes nothing.
-use Rattle.std.specs.Prelude.{List, ℕ, ◌+◌, ◌-◌, pred, min, get_or}
+use Rattle.std.specs.Prelude.{List, ℕ, ◌+◌, ◌-◌, pred, min, get_or, if◌then◌else◌}
 use Rattle.std.proofs.Math.Option
 use Rattle.std.proofs.Math.Option.{Option, none, some}
-use Rattle.definition.specs.Table.{◌=?◌, ◌<?◌, ◌≤?◌, if◌then◌else◌, u64_max}
+use Rattle.definition.specs.Table.{◌=?◌, ◌<?◌, ◌≤?◌, u64_max}
 use Rattle.view.specs.declared.MaybeIndex.{MaybeIndex}
 use Rattle.view.specs.declared.MaybeIndex.TheVariants as I
 use Rattle.view.specs.declared.MaybeBoundary.{MaybeBoundary}

@@ -1,5 +1,5 @@
 -- `main` stays in bounds.
-use Rattle.std.proofs.Common.{◌≡◌, ◌-◌, ◌≤◌, length}
+use Rattle.std.proofs.Common.{◌-◌, ◌≤◌}
 use Rattle.bench.proofs.main.Given as goal
 
 abbrev pub invariant-loop-i : goal.invariant-loop-i

@@ -1,6 +1,5 @@
 -- `boundary_pointed` meets its contract.
 use borrow.Author.Tests.{eq-eqb, ne_eqb}
-use borrow.Author.Rules.{rules}
 use Rattle.clauses.proofs.boundary_pointed.Goals as goal
 
 pub returns-then-h-ne0 : goal.returns-then-h-ne0

@@ -1,8 +1,7 @@
 -- `entry_ok` meets its contract.
 use mathlib.Core.Path.{sym, ap, ◌∙◌}
 use mathlib.Core.Bool.{and-true}
-use borrow.Author.Rules.{rules}
-use borrow.Author.Tests.{not-true, not-false, le-leb, lt-leb}
+use borrow.Author.Tests.{le-leb, lt-leb}
 use Rattle.store.specs.Zeros.{all_zero}
 use Rattle.clauses.specs.Clauses.{entry_clauses}
 use Rattle.clauses.proofs.Laws.{tail_is}

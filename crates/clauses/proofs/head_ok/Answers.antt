@@ -1,8 +1,7 @@
 -- `head_ok` meets its contract.
 use mathlib.Core.Path.{sym, ◌∙◌}
-use borrow.Author.Tests.{not-true, not-false, le-leb, lt-leb}
+use borrow.Author.Tests.{le-leb, lt-leb}
 use Rattle.clauses.specs.Clauses.{head_clauses}
-use borrow.Author.Rules.{rules}
 use Rattle.clauses.proofs.head_ok.Goals as goal
 
 pub returns-then-not-identity_ok : goal.returns-then-not-identity_ok

@@ -1,6 +1,5 @@
 -- `lsn_ok` meets its contract.
 use mathlib.Core.Bool.{and-true}
-use borrow.Author.Rules.{rules}
 use Rattle.clauses.proofs.lsn_ok.Goals as goal
 
 pub returns : goal.returns

@@ -1,8 +1,6 @@
 -- `lsns_ok` meets its contract.
 use mathlib.Core.Path.{sym, ◌∙◌}
-use borrow.Author.Tests.{not-true, not-false}
 use mathlib.Core.Bool.{and-true}
-use borrow.Author.Rules.{rules}
 use Rattle.clauses.proofs.lsns_ok.Goals as goal
 
 pub returns-then-not-lsn_ok : goal.returns-then-not-lsn_ok

@@ -1,5 +1,4 @@
 -- `reached` meets its contract.
-use borrow.Author.Rules.{rules}
 use Rattle.clauses.proofs.reached.Goals as goal
 
 pub returns : goal.returns

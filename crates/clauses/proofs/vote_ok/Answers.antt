@@ -1,5 +1,4 @@
 -- `vote_ok` meets its contract.
-use borrow.Author.Rules.{rules}
 use Rattle.clauses.proofs.vote_ok.Goals as goal
 
 pub returns : goal.returns

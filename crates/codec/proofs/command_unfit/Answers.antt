@@ -2,7 +2,6 @@
 use native.Mathlib.Omega.{arith}
 use mathlib.Core.Path.{sym}
 use Rattle.codec.proofs.Commands.{outside_unfit, inside_unfit}
-use borrow.Author.Rules.{rules}
 use Rattle.codec.proofs.command_unfit.Goals as goal
 
 pub returns-then-lent-place : goal.returns-then-lent-place

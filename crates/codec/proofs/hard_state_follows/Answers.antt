@@ -1,7 +1,6 @@
 -- `hard_state_follows` meets its contract.
 use borrow.Author.Tests.{eq-eqb, ne_eqb, lt-ltb, le-ltb}
 use Rattle.definition.specs.Log.{hard_state_successor_rows}
-use borrow.Author.Rules.{rules}
 use Rattle.codec.proofs.hard_state_follows.Goals as goal
 
 pub returns-then-received-old : goal.returns-then-received-old

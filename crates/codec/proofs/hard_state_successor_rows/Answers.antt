@@ -1,6 +1,5 @@
 -- `hard_state_successor_rows` meets its contract.
 use Rattle.definition.specs.Log.{hard_state_successor_rows}
-use borrow.Author.Rules.{rules}
 use Rattle.codec.proofs.hard_state_successor_rows.Goals as goal
 
 pub returns-in_default : goal.returns-in_default

@@ -1,8 +1,7 @@
 -- `pointer_follows` meets its contract.
 use mathlib.Core.Path.{◌∙◌, sym}
-use borrow.Author.Tests.{eq-eqb, ne_eqb, lt-ltb, le-ltb, not-true, not-false}
+use borrow.Author.Tests.{eq-eqb, ne_eqb, lt-ltb, le-ltb}
 use Rattle.definition.specs.Log.{snapshot_successor_rows, validate_snapshot_successor}
-use borrow.Author.Rules.{rules}
 use Rattle.codec.proofs.pointer_follows.Goals as goal
 
 pub returns-then-next-old : goal.returns-then-next-old

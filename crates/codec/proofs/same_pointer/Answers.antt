@@ -1,7 +1,5 @@
 -- `same_pointer` meets its contract.
 use mathlib.Core.Path.{◌∙◌, sym}
-use borrow.Author.Tests.{not-true, not-false}
-use borrow.Author.Rules.{rules}
 use Rattle.codec.proofs.same_pointer.Goals as goal
 
 pub returns-then-not-same_identity : goal.returns-then-not-same_identity

@@ -1,6 +1,5 @@
 -- `same_snapshot` meets its contract.
 use borrow.Author.Tests.{eq-eqb, ne_eqb}
-use borrow.Author.Rules.{rules}
 use Rattle.codec.proofs.same_snapshot.Goals as goal
 
 pub returns-then-p-q : goal.returns-then-p-q

@@ -1,6 +1,5 @@
 -- `unfit` meets its contract.
 use mathlib.Core.Path.{◌∙◌}
-use borrow.Author.Rules.{rules}
 use Rattle.codec.proofs.unfit.Goals as goal
 
 pub returns-in-Normal : goal.returns-in-Normal

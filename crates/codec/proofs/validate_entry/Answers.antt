@@ -3,7 +3,6 @@ use mathlib.Core.Path.{◌∙◌, sym, ap}
 use Rattle.definition.specs.Records.{form_rows}
 use Rattle.ids.specs.Refusal.{checked_of}
 use Rattle.codec.proofs.Entry.{entry_rows}
-use borrow.Author.Rules.{rules}
 use Rattle.codec.proofs.validate_entry.Goals as goal
 
 pub returns-then-zero_configuration_replica : goal.returns-then-zero_configuration_replica

@@ -1,6 +1,5 @@
 -- `validate_form` meets its contract.
 use mathlib.Core.Path.{◌∙◌}
-use borrow.Author.Rules.{rules}
 use Rattle.codec.proofs.validate_form.Goals as goal
 
 pub returns-in-Entry : goal.returns-in-Entry

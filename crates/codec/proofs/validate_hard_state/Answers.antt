@@ -2,7 +2,6 @@
 use mathlib.Core.Path.{◌∙◌, sym}
 use borrow.Author.Tests.{eq-eqb, ne_eqb}
 use Rattle.definition.specs.Records.{form_rows}
-use borrow.Author.Rules.{rules}
 use Rattle.codec.proofs.validate_hard_state.Goals as goal
 
 pub returns-then-r-eq0 : goal.returns-then-r-eq0

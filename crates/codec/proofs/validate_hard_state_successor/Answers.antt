@@ -2,7 +2,6 @@
 use mathlib.Core.Path.{◌∙◌, sym}
 use borrow.Author.Tests.{eq-eqb, ne_eqb}
 use Rattle.codec.proofs.Successor.{successor_rows}
-use borrow.Author.Rules.{rules}
 use Rattle.codec.proofs.validate_hard_state_successor.Goals as goal
 
 pub returns-then-zero_vote : goal.returns-then-zero_vote

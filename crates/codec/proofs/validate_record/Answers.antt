@@ -1,6 +1,5 @@
 -- `validate_record` meets its contract.
 use mathlib.Core.Path.{◌∙◌, sym}
-use borrow.Author.Rules.{rules}
 use Rattle.codec.proofs.validate_record.Goals as goal
 
 pub returns : goal.returns

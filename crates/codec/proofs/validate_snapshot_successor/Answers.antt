@@ -1,6 +1,5 @@
 -- `validate_snapshot_successor` meets its contract.
 use Rattle.definition.specs.Log.{snapshot_successor_rows, validate_snapshot_successor}
-use borrow.Author.Rules.{rules}
 use Rattle.codec.proofs.validate_snapshot_successor.Goals as goal
 
 pub returns-in_default : goal.returns-in_default

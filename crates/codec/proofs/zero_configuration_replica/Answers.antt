@@ -1,5 +1,4 @@
 -- `zero_configuration_replica` meets its contract, whatever is lent.
-use borrow.Author.Rules.{rules}
 use Rattle.codec.proofs.zero_configuration_replica.Goals as goal
 
 pub returns-in-Normal : goal.returns-in-Normal

@@ -1,5 +1,4 @@
 -- `zero_vote` meets its contract.
-use borrow.Author.Rules.{rules}
 use Rattle.codec.proofs.zero_vote.Goals as goal
 
 pub returns-in-Some : goal.returns-in-Some

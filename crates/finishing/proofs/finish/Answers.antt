@@ -1,8 +1,7 @@
 -- `finishing::finish` meets its contract.
 use mathlib.Core.Path.{◌≡◌, refl, sym, ◌∙◌}
 use borrow.Author.Rules.{rules}
-use borrow.Author.Tests.{not-true, not-false}
-use lib.ListN.{length-map, length}
+use lib.ListN.{length}
 use Rattle.soundness.proofs.Sound.{test_sound}
 use Rattle.finishing.proofs.Finishes.{finishes_sound, finishes_unsound}
 use Rattle.finishing.proofs.finish.Goals as goal

@@ -3,10 +3,10 @@ use mathlib.Core.Path.{◌≡◌, sym, ◌∙◌}
 use Prim.Native.Nat.{◌-◌, ◌*◌, ◌≤◌, ◌<◌}
 use native.Mathlib.Omega.{arith}
 use borrow.Author.Rules.{rules}
-use lib.ListN.{length-map, length}
+use lib.ListN.{length}
 use Rattle.view.specs.Model.{maximum_term}
 use Rattle.storage.specs.Model.{head_at, entries_in}
-use Rattle.finishing.proofs.Finishes.{largest_left, largest_begin, largest_turn, largest_end, Finishing, finishing_start, finishing_short, finishing_turn, finishing_end}
+use Rattle.finishing.proofs.Finishes.{largest_begin, largest_turn, largest_end, finishing_start, finishing_short, finishing_turn, finishing_end}
 use Rattle.finishing.proofs.finish_all.Goals as goal
 
 pub loop-j-init : goal.loop-j-init

@@ -1,12 +1,10 @@
 -- `finishing::finish_all` meets its contract. The invariants: the first j replicas are finished, and the largest term of all is the largest so far or of those left.
-use mathlib.Core.Path.{◌≡◌, sym, ◌∙◌}
-use Prim.Native.Nat.{◌-◌, ◌*◌, ◌≤◌, ◌<◌}
-use native.Mathlib.Omega.{arith}
-use borrow.Author.Rules.{rules}
-use lib.ListN.{length-map, length}
+use mathlib.Core.Path.{◌≡◌}
+use Prim.Native.Nat.{◌-◌, ◌≤◌}
+use lib.ListN.{length}
 use Rattle.view.specs.Model.{maximum_term}
-use Rattle.storage.specs.Model.{head_at, entries_in}
-use Rattle.finishing.proofs.Finishes.{largest_left, largest_begin, largest_turn, largest_end, Finishing, finishing_start, finishing_short, finishing_turn, finishing_end}
+use Rattle.storage.specs.Model.{entries_in}
+use Rattle.finishing.proofs.Finishes.{largest_left, Finishing}
 use Rattle.finishing.proofs.finish_all.Given as goal
 
 abbrev pub invariant-loop-q : goal.invariant-loop-q

@@ -1,6 +1,5 @@
 -- `advanced` meets its contract.
 use borrow.Author.Tests.{lt-ltb, le-ltb}
-use borrow.Author.Rules.{rules}
 use Rattle.lent.proofs.advanced.Goals as goal
 
 pub returns-then-commit-head : goal.returns-then-commit-head

@@ -1,6 +1,5 @@
 -- `entry_at` meets its contract.
 use borrow.Author.Tests.{le-leb, lt-leb}
-use borrow.Author.Rules.{rules}
 use Rattle.lent.proofs.entry_at.Goals as goal
 
 pub returns-then-i-ge-MAX_BATCH_ENTRIES : goal.returns-then-i-ge-MAX_BATCH_ENTRIES

@@ -1,12 +1,12 @@
 -- `listed` meets its contract. The invariant: the first i are in place.
 use mathlib.Core.Path.{◌≡◌, refl, sym, ◌∙◌}
-use Prim.Native.Nat.{◌≤◌, ◌-◌}
+use Prim.Native.Nat.{◌-◌}
 use native.Mathlib.Omega.{arith}
 use borrow.Author.Rules.{rules}
 use lib.ListN.{length, length-set}
 use Rattle.view.specs.Tab.{tab}
 use Rattle.view.proofs.Tab.{length_tab, get_d_tab}
-use Rattle.storage.proofs.Walk.{Filled, filled_all, fill_turn}
+use Rattle.storage.proofs.Walk.{filled_all, fill_turn}
 use Rattle.lent.specs.Entries.{no_entry, entry_from}
 use Rattle.lent.proofs.listed.Goals as goal
 

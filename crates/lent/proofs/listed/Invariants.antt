@@ -1,13 +1,10 @@
 -- `listed` meets its contract. The invariant: the first i are in place.
-use mathlib.Core.Path.{◌≡◌, refl, sym, ◌∙◌}
+use mathlib.Core.Path.{◌≡◌}
 use Prim.Native.Nat.{◌≤◌, ◌-◌}
-use native.Mathlib.Omega.{arith}
-use borrow.Author.Rules.{rules}
-use lib.ListN.{length, length-set}
+use lib.ListN.{length}
 use Rattle.view.specs.Tab.{tab}
-use Rattle.view.proofs.Tab.{length_tab, get_d_tab}
-use Rattle.storage.proofs.Walk.{Filled, filled_all, fill_turn}
-use Rattle.lent.specs.Entries.{no_entry, entry_from}
+use Rattle.storage.proofs.Walk.{Filled}
+use Rattle.lent.specs.Entries.{entry_from}
 use Rattle.lent.proofs.listed.Given as goal
 
 abbrev pub invariant-loop-i : goal.invariant-loop-i

@@ -2,7 +2,6 @@
 use mathlib.Core.Path.{subst}
 use mathlib.Core.List.{List}
 use lib.ListN.{take}
-use borrow.Author.Rules.{rules}
 use Rattle.lent.specs.declared.BatchEntry.{BatchEntry}
 use Rattle.lent.specs.Batch.{PreparesList}
 use Rattle.lent.proofs.Listing.{capped, prepares_listed}

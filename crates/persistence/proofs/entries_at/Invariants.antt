@@ -1,13 +1,9 @@
 -- `entries_at` meets its contract. The invariant: the first q are in place.
-use mathlib.Core.Path.{◌≡◌, refl, sym, ◌∙◌}
-use Prim.Native.Nat.{◌≤◌, ◌<◌, ◌-◌, ◌*◌}
-use native.Mathlib.Omega.{arith}
-use borrow.Author.Rules.{rules}
-use lib.ListN.{length, length-map, length-set}
-use Rattle.store.proofs.Part.{length_part, get_d_part}
-use Rattle.view.specs.Meaning.{no_entry}
+use mathlib.Core.Path.{◌≡◌}
+use Prim.Native.Nat.{◌≤◌, ◌<◌, ◌-◌}
+use lib.ListN.{length}
 use Rattle.storage.specs.Model.{entries_in}
-use Rattle.storage.proofs.Walk.{Filled, filled_all, fill_turn}
+use Rattle.storage.proofs.Walk.{Filled}
 use Rattle.persistence.proofs.entries_at.Given as goal
 
 abbrev pub invariant-loop-q : goal.invariant-loop-q

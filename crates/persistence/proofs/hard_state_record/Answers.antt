@@ -1,5 +1,4 @@
 -- `hard_state_record` meets its contract.
-use borrow.Author.Rules.{rules}
 use Rattle.persistence.proofs.hard_state_record.Goals as goal
 
 pub returns-in_default : goal.returns-in_default

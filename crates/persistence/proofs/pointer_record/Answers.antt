@@ -1,5 +1,4 @@
 -- `pointer_record` meets its contract.
-use borrow.Author.Rules.{rules}
 use Rattle.persistence.proofs.pointer_record.Goals as goal
 
 pub returns-in_default : goal.returns-in_default

@@ -1,6 +1,5 @@
 -- `prepare_batch` meets its contract.
 use Prim.Native.Nat.{ℕ, ◌≤◌}
-use native.Mathlib.Omega.{arith}
 use lib.ListN.{get_or}
 use Rattle.definition.specs.Table.{u64_max}
 use Rattle.readers.proofs.Answers.{few_held}

@@ -1,12 +1,9 @@
 -- `put_entries` meets its contract. The invariant: the records of the first i entries are in place.
-use mathlib.Core.Path.{◌≡◌, refl, sym, ◌∙◌}
-use Prim.Native.Nat.{◌≤◌, ◌-◌}
-use native.Mathlib.Omega.{arith}
+use mathlib.Core.Path.{◌≡◌}
+use Prim.Native.Nat.{◌-◌}
 use borrow.Author.Rules.{rules}
-use lib.ListN.{length, take}
+use lib.ListN.{length}
 use Rattle.persistence.proofs.Recorded.{records_start, records_turn, records_end}
-use Rattle.store.specs.Splice.{splice}
-use Rattle.persistence.specs.Answer.{entry_records}
 use Rattle.persistence.proofs.put_entries.Goals as goal
 
 pub loop-i-init : goal.loop-i-init

@@ -1,10 +1,7 @@
 -- `put_entries` meets its contract. The invariant: the records of the first i entries are in place.
-use mathlib.Core.Path.{◌≡◌, refl, sym, ◌∙◌}
+use mathlib.Core.Path.{◌≡◌}
 use Prim.Native.Nat.{◌≤◌, ◌-◌}
-use native.Mathlib.Omega.{arith}
-use borrow.Author.Rules.{rules}
 use lib.ListN.{length, take}
-use Rattle.persistence.proofs.Recorded.{records_start, records_turn, records_end}
 use Rattle.store.specs.Splice.{splice}
 use Rattle.persistence.specs.Answer.{entry_records}
 use Rattle.persistence.proofs.put_entries.Given as goal

@@ -1,10 +1,9 @@
 -- `records_of` meets its contract.
 use Prim.Native.Nat.{◌+◌, ◌≤◌}
-use mathlib.Core.Path.{◌≡◌, refl, sym, ◌∙◌}
+use mathlib.Core.Path.{refl}
 use native.Mathlib.Omega.{arith}
-use Rattle.persistence.specs.Answer.{pointer_count, hard_state_count}
+use Rattle.persistence.specs.Answer.{hard_state_count}
 use Rattle.persistence.proofs.Recorded.{pointer_few, hard_state_few, records_are}
-use borrow.Author.Rules.{rules}
 use Rattle.persistence.proofs.records_of.Goals as goal
 
 pub overflow_add-end : goal.overflow_add-end

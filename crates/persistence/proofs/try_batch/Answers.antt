@@ -1,6 +1,5 @@
 -- `try_batch` meets its contract.
 use Rattle.persistence.proofs.Tried.{try_sits, try_ran}
-use borrow.Author.Rules.{rules}
 use Rattle.persistence.proofs.try_batch.Goals as goal
 
 pub prepare_on-requires : goal.prepare_on-requires

@@ -1,11 +1,8 @@
 -- `entries_up` meets its contract.
 use Prim.Native.Nat.{◌≤◌}
-use mathlib.Core.Path.{◌≡◌, sym, ap, ◌∙◌}
-use native.Mathlib.Omega.{arith}
-use borrow.Author.Rules.{rules}
-use lib.ListN.{length-map, length}
-use Rattle.placing.specs.Moves.{with_entries}
-use Rattle.placing.proofs.Moves.{entries_up, up_none, up_all, entries_up_turn}
+use mathlib.Core.Path.{◌≡◌}
+use lib.ListN.{length}
+use Rattle.placing.proofs.Moves.{entries_up}
 use Rattle.placing.proofs.entries_up.Given as goal
 
 abbrev pub invariant-loop-j : goal.invariant-loop-j

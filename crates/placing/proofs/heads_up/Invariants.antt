@@ -1,11 +1,8 @@
 -- `heads_up` meets its contract.
 use Prim.Native.Nat.{◌≤◌, ◌+◌}
-use mathlib.Core.Path.{◌≡◌, sym, ap, ◌∙◌}
-use native.Mathlib.Omega.{arith}
-use borrow.Author.Rules.{rules}
-use lib.ListN.{length-map, length}
-use Rattle.placing.specs.Moves.{with_heads}
-use Rattle.placing.proofs.Moves.{heads_up, up_none, up_all, heads_up_turn}
+use mathlib.Core.Path.{◌≡◌}
+use lib.ListN.{length}
+use Rattle.placing.proofs.Moves.{heads_up}
 use Rattle.placing.proofs.heads_up.Given as goal
 
 abbrev pub invariant-loop-j : goal.invariant-loop-j

@@ -1,10 +1,7 @@
 -- `open_place` meets its contract.
--- src/lib.rt:124:13
 use Rattle.placing.proofs.Written.{opened_is}
-use borrow.Author.Rules.{rules}
 use Rattle.placing.proofs.open_place.Goals as goal
 
--- src/lib.rt:114:1
 pub returns : goal.returns
 returns c =
     (opened_is _ _ _ _ c.requires _ _ _ c.entries_up-spread.ensures c.heads_up-t.ensures c.new-head.ensures, c.open_block.ensures)

@@ -1,5 +1,4 @@
 use borrow.Author.Tests.{lt-leb, le-leb}
-use borrow.Author.Rules.{rules}
 use Rattle.preview.proofs.holds.Goals as goal
 
 pub returns-then-index-first : goal.returns-then-index-first

@@ -1,6 +1,5 @@
 -- `supply` meets its contract.
 use mathlib.Core.Path.{◌∙◌}
-use borrow.Author.Rules.{rules}
 use Rattle.preview.proofs.supply.Goals as goal
 
 pub returns : goal.returns

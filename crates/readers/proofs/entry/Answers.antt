@@ -2,13 +2,11 @@
 use mathlib.Core.Path.{refl, sym, ap, ◌∙◌}
 use Prim.Native.Nat.{ℕ}
 use native.Mathlib.Omega.{arith}
-use borrow.Author.Tests.{not-true, not-false}
 use Rattle.definition.specs.Table.{ok}
 use Rattle.definition.specs.Log.{Log, at}
 use Rattle.readers.proofs.Answers.{few_held, reads_unsound}
 use Rattle.readers.proofs.Owns.{owns, reads_own}
 use Rattle.readers.proofs.Readings.{index_none, index_below, index_entry}
-use borrow.Author.Rules.{rules}
 use Rattle.readers.proofs.entry.Goals as goal
 
 pub returns-then-not-passes : goal.returns-then-not-passes
@@ -19,19 +17,16 @@ own_of-own-requires c = few_held c.passes.ensures c.if-not-passes.false
 
 pub returns-in_default : goal.returns-in_default
 returns-in_default c =
-    
     let w = owns c.passes.ensures c.if-not-passes.false c.own_of-own.ensures in
     reads_own w (λ (l : Log ℕ). at l c.args.index) (ap ok (index_none w _ (sym c.place_of.ensures ∙ c.in_default.is)))
 
 pub kept_at-e-requires : goal.kept_at-e-requires
 kept_at-e-requires c =
-    
     let w = owns c.passes.ensures c.if-not-passes.false c.own_of-own.ensures in
     let k = index_below w _ (sym c.place_of.ensures ∙ c.in-Held.is) in
     (w.low, omega (arith, k, w.short))
 
 pub returns : goal.returns
 returns c =
-    
     let w = owns c.passes.ensures c.if-not-passes.false c.own_of-own.ensures in
     reads_own w (λ (l : Log ℕ). at l c.args.index) (index_entry w _ (sym c.place_of.ensures ∙ c.in-Held.is) c.kept_at-e.ensures)

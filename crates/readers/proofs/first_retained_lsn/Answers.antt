@@ -1,13 +1,11 @@
 -- `first_retained_lsn` meets its contract.
 use mathlib.Core.Path.{refl, ap}
 use native.Mathlib.Omega.{arith}
-use borrow.Author.Tests.{not-true, not-false}
 use Rattle.definition.specs.Table.{ok}
 use Rattle.definition.specs.Log.{first_retained_lsn}
 use Rattle.readers.proofs.Answers.{few_held, reads_unsound}
 use Rattle.readers.proofs.Owns.{owns, reads_own}
 use Rattle.readers.proofs.Readings.{retained_is}
-use borrow.Author.Rules.{rules}
 use Rattle.readers.proofs.first_retained_lsn.Goals as goal
 
 pub returns-then-not-passes : goal.returns-then-not-passes
@@ -21,6 +19,5 @@ kept_at-first-requires c = ((owns c.passes.ensures c.if-not-passes.false c.own_o
 
 pub returns : goal.returns
 returns c =
-    
     let w = owns c.passes.ensures c.if-not-passes.false c.own_of-own.ensures in
     reads_own w first_retained_lsn (ap ok (retained_is _ _ _ c.kept_at-first.ensures c.first_retained_lsn.ensures))

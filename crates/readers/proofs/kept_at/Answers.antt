@@ -3,7 +3,6 @@ use mathlib.Core.Path.{sym}
 use Prim.Native.Nat.{◌*◌}
 use Rattle.store.proofs.Part.{get_d_part}
 use Rattle.view.specs.Meaning.{no_entry}
-use borrow.Author.Rules.{rules}
 use Rattle.readers.proofs.kept_at.Goals as goal
 
 pub returns : goal.returns

@@ -1,12 +1,10 @@
 -- `last_index` meets its contract.
 use mathlib.Core.Path.{refl, sym, ap, ◌∙◌}
-use borrow.Author.Tests.{not-true, not-false}
 use Rattle.definition.specs.Table.{ok}
 use Rattle.definition.specs.Log.{last_index}
 use Rattle.view.proofs.Readers.{last_index_is}
 use Rattle.readers.proofs.Answers.{few_held, reads_unsound}
 use Rattle.readers.proofs.Owns.{owns, reads_own}
-use borrow.Author.Rules.{rules}
 use Rattle.readers.proofs.last_index.Goals as goal
 
 pub returns-then-not-passes : goal.returns-then-not-passes
@@ -17,6 +15,5 @@ own_of-own-requires c = few_held c.passes.ensures c.if-not-passes.false
 
 pub returns : goal.returns
 returns c =
-    
     let w = owns c.passes.ensures c.if-not-passes.false c.own_of-own.ensures in
     reads_own w last_index (ap ok (last_index_is _ _ _ w.indices ∙ sym c.last_index.ensures))

@@ -1,14 +1,12 @@
 -- `last_replayed_lsn` meets its contract.
 use mathlib.Core.Path.{refl, sym, ap}
 use Prim.Native.Nat.{ℕ}
-use borrow.Author.Tests.{not-true, not-false}
 use Rattle.definition.specs.Table.{ok}
 use Rattle.definition.specs.Log.{Log}
 use Rattle.view.specs.declared.MaybeLsn.{MaybeLsn}
 use Rattle.view.specs.Meaning.{lsn_of, view_of}
 use Rattle.readers.proofs.Answers.{few_held, reads_unsound}
 use Rattle.readers.proofs.Owns.{owns, reads_own}
-use borrow.Author.Rules.{rules}
 use Rattle.readers.proofs.last_replayed_lsn.Goals as goal
 
 pub returns-then-not-passes : goal.returns-then-not-passes
@@ -20,6 +18,5 @@ own_of-own-requires c = few_held c.passes.ensures c.if-not-passes.false
 pub returns : goal.returns
 unfolding view_of
 returns c =
-    
     let w = owns c.passes.ensures c.if-not-passes.false c.own_of-own.ensures in
     reads_own w (λ (l : Log ℕ). l.last_replayed_lsn) (ap (λ (l : MaybeLsn). ok (lsn_of l)) (sym c.last_replayed_lsn.ensures))

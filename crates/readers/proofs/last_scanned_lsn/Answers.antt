@@ -1,9 +1,7 @@
 -- `last_scanned_lsn` meets its contract.
 use mathlib.Core.Path.{refl}
-use borrow.Author.Tests.{not-true, not-false}
 use Rattle.storage.specs.Meaning.{meaning}
 use Rattle.readers.proofs.Answers.{reads_sound, reads_unsound}
-use borrow.Author.Rules.{rules}
 use Rattle.readers.proofs.last_scanned_lsn.Goals as goal
 
 pub returns-then-not-passes : goal.returns-then-not-passes

@@ -1,10 +1,8 @@
 -- `len` meets its contract.
 use mathlib.Core.Path.{refl, ap}
-use borrow.Author.Tests.{not-true, not-false}
 use Rattle.definition.specs.Table.{ok}
 use Rattle.readers.proofs.Answers.{reads_sound, reads_unsound}
 use Rattle.readers.proofs.Readings.{held_is}
-use borrow.Author.Rules.{rules}
 use Rattle.readers.proofs.len.Goals as goal
 
 pub returns-then-not-passes : goal.returns-then-not-passes

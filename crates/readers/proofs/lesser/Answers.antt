@@ -1,6 +1,5 @@
 -- `lesser` meets its contract.
 use borrow.Author.Tests.{le-leb, lt-leb}
-use borrow.Author.Rules.{rules}
 use Rattle.readers.proofs.lesser.Goals as goal
 
 pub returns-in_default-b : goal.returns-in_default-b

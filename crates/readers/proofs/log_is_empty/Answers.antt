@@ -1,13 +1,11 @@
 -- `log_is_empty` meets its contract.
 use mathlib.Core.Path.{refl, sym, ap, ◌∙◌}
 use Prim.Native.Nat.{ℕ}
-use borrow.Author.Tests.{not-true, not-false}
 use Rattle.definition.specs.Table.{◌=?◌, ok}
 use Rattle.definition.specs.Log.{is_empty}
 use Rattle.view.proofs.Readers.{count_is}
 use Rattle.readers.proofs.Answers.{few_held, reads_unsound}
 use Rattle.readers.proofs.Owns.{owns, reads_own}
-use borrow.Author.Rules.{rules}
 use Rattle.readers.proofs.log_is_empty.Goals as goal
 
 pub returns-then-not-passes : goal.returns-then-not-passes
@@ -18,6 +16,5 @@ own_of-own-requires c = few_held c.passes.ensures c.if-not-passes.false
 
 pub returns : goal.returns
 returns c =
-    
     let w = owns c.passes.ensures c.if-not-passes.false c.own_of-own.ensures in
     reads_own w is_empty (ap (λ (n : ℕ). ok (n =? 0)) (count_is _ _ _) ∙ ap ok (sym c.is_empty.ensures))

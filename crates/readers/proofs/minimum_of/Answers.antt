@@ -1,5 +1,4 @@
 -- `minimum_of` meets its contract.
-use borrow.Author.Rules.{rules}
 use Rattle.readers.proofs.minimum_of.Goals as goal
 
 pub returns : goal.returns

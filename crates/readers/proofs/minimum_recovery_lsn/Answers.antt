@@ -1,13 +1,11 @@
 -- `minimum_recovery_lsn` meets its contract.
 use mathlib.Core.Path.{refl, sym, ap, ◌∙◌}
 use native.Mathlib.Omega.{arith}
-use borrow.Author.Tests.{not-true, not-false}
 use Rattle.definition.specs.Table.{ok}
 use Rattle.definition.specs.Recovery.{minimum_recovery_lsn}
 use Rattle.readers.proofs.Answers.{few_held, reads_unsound}
 use Rattle.readers.proofs.Owns.{owns, reads_own}
 use Rattle.readers.proofs.Readings.{minimum_is}
-use borrow.Author.Rules.{rules}
 use Rattle.readers.proofs.minimum_recovery_lsn.Goals as goal
 
 pub returns-then-not-passes : goal.returns-then-not-passes
@@ -21,6 +19,5 @@ kept_at-first-requires c = ((owns c.passes.ensures c.if-not-passes.false c.own_o
 
 pub returns : goal.returns
 returns c =
-    
     let w = owns c.passes.ensures c.if-not-passes.false c.own_of-own.ensures in
     reads_own w minimum_recovery_lsn (ap ok (minimum_is _ _ _ c.kept_at-first.ensures ∙ sym c.minimum_of.ensures))

@@ -3,7 +3,6 @@ use mathlib.Core.Path.{sym, ◌∙◌}
 use native.Mathlib.Omega.{arith}
 use Rattle.storage.proofs.Finding.{found_among}
 use Rattle.readers.proofs.Owns.{found_held}
-use borrow.Author.Rules.{rules}
 use Rattle.readers.proofs.own_of.Goals as goal
 
 pub returns-in_default : goal.returns-in_default

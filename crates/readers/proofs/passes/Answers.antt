@@ -1,6 +1,4 @@
 -- `passes` meets its contract.
-use mathlib.Core.Path.{sym, ◌∙◌}
-use lib.ListN.{length-map}
 use borrow.Author.Rules.{rules}
 use Rattle.readers.proofs.passes.Goals as goal
 

@@ -1,9 +1,7 @@
 -- `replica` meets its contract.
-use borrow.Author.Tests.{not-true, not-false}
 use Rattle.readers.proofs.Answers.{few_held}
 use Rattle.readers.proofs.Owns.{owns}
 use Rattle.readers.proofs.Readings.{replica_refused, replica_read}
-use borrow.Author.Rules.{rules}
 use Rattle.readers.proofs.replica.Goals as goal
 
 pub returns-then-not-passes : goal.returns-then-not-passes

@@ -1,9 +1,7 @@
 -- `replica_at` meets its contract.
 use native.Mathlib.Omega.{arith}
-use borrow.Author.Tests.{not-true, not-false}
 use Rattle.readers.proofs.Answers.{few_held}
 use Rattle.readers.proofs.Readings.{place_refused, place_past, place_held}
-use borrow.Author.Rules.{rules}
 use Rattle.readers.proofs.replica_at.Goals as goal
 
 pub returns-then-not-passes : goal.returns-then-not-passes

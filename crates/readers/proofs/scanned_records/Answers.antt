@@ -1,9 +1,7 @@
 -- `scanned_records` meets its contract.
 use mathlib.Core.Path.{refl}
-use borrow.Author.Tests.{not-true, not-false}
 use Rattle.storage.specs.Meaning.{meaning}
 use Rattle.readers.proofs.Answers.{reads_sound, reads_unsound}
-use borrow.Author.Rules.{rules}
 use Rattle.readers.proofs.scanned_records.Goals as goal
 
 pub returns-then-not-passes : goal.returns-then-not-passes

@@ -1,12 +1,10 @@
 -- `snapshot_boundary` meets its contract.
 use mathlib.Core.Path.{refl, sym, ap, ◌∙◌}
-use borrow.Author.Tests.{not-true, not-false}
 use Rattle.definition.specs.Table.{ok}
 use Rattle.definition.specs.Log.{snapshot_boundary}
 use Rattle.view.proofs.Readers.{boundary_is}
 use Rattle.readers.proofs.Answers.{few_held, reads_unsound}
 use Rattle.readers.proofs.Owns.{owns, reads_own}
-use borrow.Author.Rules.{rules}
 use Rattle.readers.proofs.snapshot_boundary.Goals as goal
 
 pub returns-then-not-passes : goal.returns-then-not-passes
@@ -17,6 +15,5 @@ own_of-own-requires c = few_held c.passes.ensures c.if-not-passes.false
 
 pub returns : goal.returns
 returns c =
-    
     let w = owns c.passes.ensures c.if-not-passes.false c.own_of-own.ensures in
     reads_own w snapshot_boundary (ap ok (boundary_is _ _ _ ∙ sym c.snapshot_boundary.ensures))

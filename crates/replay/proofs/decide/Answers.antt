@@ -1,6 +1,5 @@
 -- `decide` meets its contract.
 use mathlib.Core.Path.{◌∙◌}
-use borrow.Author.Rules.{rules}
 use Rattle.replay.proofs.decide.Goals as goal
 
 pub returns : goal.returns

@@ -1,5 +1,4 @@
 -- `index_of` meets its contract.
-use borrow.Author.Rules.{rules}
 use Rattle.replay.proofs.index_of.Goals as goal
 
 pub returns-in-SnapshotPointer : goal.returns-in-SnapshotPointer

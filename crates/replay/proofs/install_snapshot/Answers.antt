@@ -3,7 +3,6 @@ use mathlib.Core.Path.{sym, ap, ◌∙◌}
 use Rattle.ids.specs.Identity.{identity_of}
 use Rattle.ids.specs.Refusal.{checked_of}
 use Rattle.replay.proofs.Written.{covered_few, dropped_is, plan_installs}
-use borrow.Author.Rules.{rules}
 use Rattle.replay.proofs.install_snapshot.Goals as goal
 
 pub returns-in-Refused : goal.returns-in-Refused

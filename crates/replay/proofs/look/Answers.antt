@@ -1,6 +1,5 @@
 -- `look` meets its contract.
 use Rattle.replay.proofs.Written.{look_low, look_past, look_in}
-use borrow.Author.Rules.{rules}
 use Rattle.replay.proofs.look.Goals as goal
 
 pub returns-then-index-first : goal.returns-then-index-first

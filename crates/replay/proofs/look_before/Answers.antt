@@ -1,5 +1,4 @@
 -- `look_before` meets its contract.
-use borrow.Author.Rules.{rules}
 use Rattle.replay.proofs.look_before.Goals as goal
 
 pub returns-then-index-eq0 : goal.returns-then-index-eq0

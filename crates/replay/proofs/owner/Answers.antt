@@ -1,5 +1,4 @@
 -- `owner` meets its contract.
-use borrow.Author.Rules.{rules}
 use Rattle.replay.proofs.owner.Goals as goal
 
 pub returns-in-SnapshotPointer : goal.returns-in-SnapshotPointer

@@ -1,6 +1,5 @@
 -- `prior_term` meets its contract.
 use mathlib.Core.Path.{sym, ◌∙◌}
-use borrow.Author.Rules.{rules}
 use Rattle.replay.proofs.prior_term.Goals as goal
 
 pub returns-in_default : goal.returns-in_default

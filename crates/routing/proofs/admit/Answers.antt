@@ -1,6 +1,5 @@
 -- `observing::admit` meets its contract.
 use mathlib.Core.Path.{sym, ap, ◌∙◌}
-use borrow.Author.Rules.{rules}
 use Rattle.ids.specs.Refusal.{checked_of}
 use Rattle.routing.proofs.Scanned.{scan_room}
 use Rattle.routing.proofs.admit.Goals as goal

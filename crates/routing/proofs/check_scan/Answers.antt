@@ -1,5 +1,4 @@
 -- `observing::check_scan` meets its contract.
-use borrow.Author.Rules.{rules}
 use borrow.Author.Tests.{le-leb, lt-leb}
 use Rattle.routing.proofs.check_scan.Goals as goal
 

@@ -1,5 +1,4 @@
 -- `later` meets its contract.
-use borrow.Author.Rules.{rules}
 use Rattle.shown.proofs.later.Goals as goal
 
 pub returns-in-At : goal.returns-in-At

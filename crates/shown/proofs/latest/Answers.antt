@@ -1,7 +1,6 @@
 -- `latest` meets its contract: what the rest of the entries supplies goes before what was found.
 use Prim.Native.Nat.{◌-◌}
-use borrow.Author.Rules.{rules}
-use Rattle.shown.proofs.Supplying.{Supplying, supply_start, supply_turn, supply_end}
+use Rattle.shown.proofs.Supplying.{supply_start, supply_turn, supply_end}
 use Rattle.shown.proofs.latest.Goals as goal
 
 pub loop-i-init : goal.loop-i-init

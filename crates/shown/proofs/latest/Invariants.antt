@@ -1,7 +1,6 @@
 -- `latest` meets its contract: what the rest of the entries supplies goes before what was found.
 use Prim.Native.Nat.{◌-◌}
-use borrow.Author.Rules.{rules}
-use Rattle.shown.proofs.Supplying.{Supplying, supply_start, supply_turn, supply_end}
+use Rattle.shown.proofs.Supplying.{Supplying}
 use Rattle.shown.proofs.latest.Given as goal
 
 abbrev pub invariant-loop-i : goal.invariant-loop-i

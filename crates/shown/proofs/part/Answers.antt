@@ -1,7 +1,6 @@
 -- `part` meets its contract.
 use native.Mathlib.Nat.{add-sub_cancel_left}
 use Rattle.shown.proofs.Parts.{part_past, part_rest}
-use borrow.Author.Rules.{rules}
 use Rattle.shown.proofs.part.Goals as goal
 
 pub returns-then-n-at : goal.returns-then-n-at

@@ -4,7 +4,6 @@ use Rattle.definition.specs.Batch.{shown_bytes}
 use Rattle.shown.specs.declared.Shown.{Shown}
 use Rattle.shown.specs.Shows.{shown_of}
 use Rattle.shown.proofs.Answers.{shows_part}
-use borrow.Author.Rules.{rules}
 use Rattle.shown.proofs.previewed_command.Goals as goal
 
 pub returns-in-Nothing : goal.returns-in-Nothing

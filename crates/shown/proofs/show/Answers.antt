@@ -25,7 +25,6 @@ bounds-preview-q c =
 pub returns : goal.returns
 returns c lent =
     let a = c.args in
-    
     show_held a.own a.preview a.index c.place_of.result c.place_of.ensures (supplied a.index (entries_of a.entries lent)) _
     c.in-Held.is c.look-q.result c.look-q.ensures _ (c.latest-from.ensures lent) _
     c.show_payload.ensures

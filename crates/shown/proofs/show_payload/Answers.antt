@@ -2,7 +2,6 @@
 use Prim.Native.Nat.{◌<◌}
 use native.Mathlib.Omega.{arith}
 use Rattle.replay.proofs.Written.{look_below}
-use borrow.Author.Rules.{rules}
 use Rattle.shown.proofs.show_payload.Goals as goal
 
 pub returns-in_default : goal.returns-in_default

@@ -1,15 +1,12 @@
 -- `heads_rise` meets its contract. The invariant: they rise where none that does not was seen and the rest rise.
 use mathlib.Core.Path.{◌≡◌, sym, ◌∙◌}
-use mathlib.Core.Bool.{not, ◌&&◌, and-true}
-use mathlib.Core.Logic.{⊎_elim}
-use Prim.Native.Nat.{◌-◌, ◌≤◌}
+use mathlib.Core.Bool.{not, and-true}
+use Prim.Native.Nat.{◌-◌}
 use native.Mathlib.Omega.{arith}
 use borrow.Author.Rules.{rules}
-use borrow.Author.Tests.{not-true, not-false}
 use lib.ListN.{length}
 use Rattle.store.proofs.Flag.{flag_set, flag_kept}
-use Rattle.soundness.specs.Sound.{heads_rise}
-use Rattle.soundness.proofs.Step.{heads_left, heads_begin, heads_step, heads_end}
+use Rattle.soundness.proofs.Step.{heads_begin, heads_step, heads_end}
 use Rattle.soundness.proofs.heads_rise.Goals as goal
 use Rattle.soundness.proofs.heads_rise.Goals.{then-not-precedes, else-not-precedes}
 
@@ -47,7 +44,7 @@ loop-i-preserved c =
     let walk = heads_step s.n s.heads l.i c.loop-i-test.true in (
       omega arith,
       l.invariant.1 ∙ elim c.if-not-precedes.branch [
-        then-not-precedes w ↦ rw w.bad-is (flag_set l.bad _ _ walk (sym c.precedes.ensures ∙ w.if-not-precedes.true))
+        | then-not-precedes w ↦ rw w.bad-is (flag_set l.bad _ _ walk (sym c.precedes.ensures ∙ w.if-not-precedes.true))
         | else-not-precedes w ↦ rw w.bad-is (flag_kept l.bad _ _ walk (sym c.precedes.ensures ∙ w.if-not-precedes.false))
       ],
     )

@@ -2,19 +2,14 @@
 -- replicas, and within a replica the rest of its entries and block too.
 use mathlib.Core.Path.{◌≡◌, refl, sym, ap, ◌∙◌}
 use mathlib.Core.Bool.{Bool, ◌&&◌, and-true}
-use mathlib.Core.List.{List}
-use mathlib.Core.Option.{Option}
-use Prim.Native.Nat.{ℕ, ◌+◌, ◌-◌, ◌*◌, ◌≤◌}
+use Prim.Native.Nat.{◌+◌, ◌-◌, ◌*◌}
 use native.Mathlib.Omega.{arith}
-use borrow.Author.Rules.{rules}
 use borrow.Author.Tests.{eq-eqb, ne_eqb, lt-ltb, le-ltb, le-leb, lt-leb}
 use lib.ListN.{length}
 use Rattle.store.specs.Zeros.{all_zero}
-use Rattle.view.specs.Meaning.{lsn_of}
-use Rattle.storage.specs.declared.RecoveredRaftStorage.{RecoveredRaftStorage}
 use Rattle.soundness.specs.Sound.{replicas_ok, sound_clauses, sound_test}
 use Rattle.clauses.proofs.Laws.{tail_is}
-use Rattle.soundness.proofs.Step.{kept, replicas_left, replicas_begin, replicas_end, walked_short, block_left, head_turn, entry_turn, block_turn}
+use Rattle.soundness.proofs.Step.{kept, replicas_begin, replicas_end, walked_short, head_turn, entry_turn, block_turn}
 use Rattle.soundness.proofs.is_sound.Invariants.{last_of, left, within}
 use Rattle.soundness.proofs.is_sound.Goals as goal
 

@@ -1,20 +1,14 @@
 -- `is_sound` meets its contract. The invariants: all is well where all was well so far and the rest is well, the rest of the
 -- replicas, and within a replica the rest of its entries and block too.
-use mathlib.Core.Path.{◌≡◌, refl, sym, ap, ◌∙◌}
-use mathlib.Core.Bool.{Bool, ◌&&◌, and-true}
+use mathlib.Core.Path.{◌≡◌}
+use mathlib.Core.Bool.{Bool, ◌&&◌}
 use mathlib.Core.List.{List}
 use mathlib.Core.Option.{Option}
-use Prim.Native.Nat.{ℕ, ◌+◌, ◌-◌, ◌*◌, ◌≤◌}
-use native.Mathlib.Omega.{arith}
-use borrow.Author.Rules.{rules}
-use borrow.Author.Tests.{eq-eqb, ne_eqb, lt-ltb, le-ltb, le-leb, lt-leb}
-use lib.ListN.{length}
-use Rattle.store.specs.Zeros.{all_zero}
+use Prim.Native.Nat.{ℕ, ◌+◌, ◌-◌, ◌≤◌}
 use Rattle.view.specs.Meaning.{lsn_of}
 use Rattle.storage.specs.declared.RecoveredRaftStorage.{RecoveredRaftStorage}
-use Rattle.soundness.specs.Sound.{replicas_ok, sound_clauses, sound_test}
-use Rattle.clauses.proofs.Laws.{tail_is}
-use Rattle.soundness.proofs.Step.{kept, replicas_left, replicas_begin, replicas_end, walked_short, block_left, head_turn, entry_turn, block_turn}
+use Rattle.soundness.specs.Sound.{sound_test}
+use Rattle.soundness.proofs.Step.{replicas_left, block_left}
 use Rattle.soundness.proofs.is_sound.Given as goal
 
 abbrev pub last_of : RecoveredRaftStorage → Option ℕ

@@ -1,11 +1,11 @@
 -- `identities` meets its contract. The invariant: the first p are in place.
 use mathlib.Core.Path.{◌≡◌, refl, sym, ◌∙◌}
-use Prim.Native.Nat.{◌≤◌, ◌-◌}
+use Prim.Native.Nat.{◌-◌}
 use native.Mathlib.Omega.{arith}
 use borrow.Author.Rules.{rules}
 use lib.ListN.{length, length-map, length-set}
 use Rattle.storage.specs.Place.{owners_of, no_owner}
-use Rattle.storage.proofs.Walk.{Filled, filled_all, fill_turn}
+use Rattle.storage.proofs.Walk.{filled_all, fill_turn}
 use Rattle.storage.proofs.Place.{owner_at}
 use Rattle.storage.proofs.identities.Goals as goal
 

@@ -1,12 +1,9 @@
 -- `identities` meets its contract. The invariant: the first p are in place.
-use mathlib.Core.Path.{◌≡◌, refl, sym, ◌∙◌}
+use mathlib.Core.Path.{◌≡◌}
 use Prim.Native.Nat.{◌≤◌, ◌-◌}
-use native.Mathlib.Omega.{arith}
-use borrow.Author.Rules.{rules}
-use lib.ListN.{length, length-map, length-set}
-use Rattle.storage.specs.Place.{owners_of, no_owner}
-use Rattle.storage.proofs.Walk.{Filled, filled_all, fill_turn}
-use Rattle.storage.proofs.Place.{owner_at}
+use lib.ListN.{length}
+use Rattle.storage.specs.Place.{owners_of}
+use Rattle.storage.proofs.Walk.{Filled}
 use Rattle.storage.proofs.identities.Given as goal
 
 abbrev pub invariant-loop-p : goal.invariant-loop-p

@@ -1,33 +1,26 @@
 -- `stands_at` meets its contract. The invariant: what is asked of the whole is what is asked of the rest.
-use Prim.Native.Nat.{◌≤◌, ◌-◌, ◌+◌}
-use mathlib.Core.Path.{◌≡◌, sym, ◌∙◌}
+use Prim.Native.Nat.{◌-◌}
+use mathlib.Core.Path.{sym, ◌∙◌}
 use borrow.Author.Rules.{rules}
-use borrow.Author.Tests.{not-true, not-false}
-use lib.ListN.{drop}
 use Rattle.ids.specs.Identity.{identity_of}
-use Rattle.storage.specs.Place.{stands_at}
 use Rattle.storage.proofs.Finding.{stands_start, stands_turn, stands_stop, stands_end}
 use Rattle.storage.proofs.stands_at.Goals as goal
 
--- src/lib.rt:27:5
 pub loop-p-init : goal.loop-p-init
 loop-p-init c = (search rules, stands_start (identity_of c.args.identity) c.args.held c.args.own)
 
--- src/lib.rt:31:13
 pub returns-then-not-precedes : goal.returns-then-not-precedes
 returns-then-not-precedes c =
     let a = c.args in
     let l = c.loop-p in
     sym (l.invariant.1 ∙ stands_stop (identity_of a.identity) a.held a.own l.p (search rules) (sym c.precedes.ensures ∙ c.if-not-precedes.true))
 
--- src/lib.rt:27:5
 pub loop-p-preserved : goal.loop-p-preserved
 loop-p-preserved c =
     let a = c.args in
     let l = c.loop-p in
     (search rules, l.invariant.1 ∙ stands_turn (identity_of a.identity) a.held a.own l.p (search rules) (sym c.precedes.ensures ∙ c.if-not-precedes.false))
 
--- src/lib.rt:22:1
 pub returns : goal.returns
 returns c =
     let a = c.args in

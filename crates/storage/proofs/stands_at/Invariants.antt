@@ -1,12 +1,9 @@
 -- `stands_at` meets its contract. The invariant: what is asked of the whole is what is asked of the rest.
 use Prim.Native.Nat.{◌≤◌, ◌-◌, ◌+◌}
-use mathlib.Core.Path.{◌≡◌, sym, ◌∙◌}
-use borrow.Author.Rules.{rules}
-use borrow.Author.Tests.{not-true, not-false}
+use mathlib.Core.Path.{◌≡◌}
 use lib.ListN.{drop}
 use Rattle.ids.specs.Identity.{identity_of}
 use Rattle.storage.specs.Place.{stands_at}
-use Rattle.storage.proofs.Finding.{stands_start, stands_turn, stands_stop, stands_end}
 use Rattle.storage.proofs.stands_at.Given as goal
 
 abbrev pub invariant-loop-p : goal.invariant-loop-p

@@ -1,9 +1,7 @@
 -- `store::clear` meets its contract. The invariant: j zeros are in dst, and the rest of it is as it was.
 use mathlib.Core.Path.{◌≡◌, refl, sym}
-use Prim.Native.Nat.{◌≤◌, ◌-◌}
 use native.Mathlib.Omega.{arith}
-use lib.ListN.{length, length-set}
-use Rattle.store.specs.Splice.{splice}
+use lib.ListN.{length-set}
 use Rattle.store.specs.Zeros.{zeros}
 use Rattle.store.proofs.Part.{splice_none}
 use Rattle.store.proofs.Run.{turn_fill}

@@ -1,12 +1,9 @@
 -- `store::clear` meets its contract. The invariant: j zeros are in dst, and the rest of it is as it was.
-use mathlib.Core.Path.{◌≡◌, refl, sym}
+use mathlib.Core.Path.{◌≡◌}
 use Prim.Native.Nat.{◌≤◌, ◌-◌}
-use native.Mathlib.Omega.{arith}
-use lib.ListN.{length, length-set}
+use lib.ListN.{length}
 use Rattle.store.specs.Splice.{splice}
 use Rattle.store.specs.Zeros.{zeros}
-use Rattle.store.proofs.Part.{splice_none}
-use Rattle.store.proofs.Run.{turn_fill}
 use Rattle.store.proofs.clear.Given as goal
 
 abbrev pub invariant-loop-j : goal.invariant-loop-j

@@ -1,10 +1,8 @@
 -- `store::copy_in` meets its contract. The invariant: the first j bytes of src are in dst, and the rest of dst is as it was.
 use mathlib.Core.Path.{◌≡◌, refl, sym}
-use Prim.Native.Nat.{◌≤◌, ◌-◌}
 use native.Mathlib.Omega.{arith}
-use lib.ListN.{length, take, length-set}
+use lib.ListN.{take, length-set}
 use lib.Seq.{take_all}
-use Rattle.store.specs.Splice.{splice}
 use Rattle.store.proofs.Part.{splice_none}
 use Rattle.store.proofs.Run.{turn_copy}
 use Rattle.store.proofs.copy_in.Goals as goal

@@ -1,12 +1,8 @@
 -- `store::is_zero` meets its contract. The invariant: all are zero where none that is not was seen and the rest is zero.
-use mathlib.Core.Path.{◌≡◌, refl, sym, ◌∙◌}
-use mathlib.Core.Bool.{not, ◌&&◌, and-true}
-use mathlib.Core.Logic.{⊎_elim}
-use Prim.Native.Nat.{◌≤◌, ◌-◌}
+use mathlib.Core.Path.{refl, sym, ◌∙◌}
+use mathlib.Core.Bool.{not, and-true}
 use native.Mathlib.Omega.{arith}
 use borrow.Author.Tests.{eq-eqb, ne_eqb}
-use lib.ListN.{length, drop}
-use Rattle.store.specs.Zeros.{all_zero}
 use Rattle.store.proofs.Zeros.{zero_walk, zero_end}
 use Rattle.store.proofs.Flag.{flag_set, flag_kept}
 use Rattle.store.proofs.is_zero.Goals as goal
@@ -30,7 +26,7 @@ loop-i-preserved c =
     let walk = zero_walk c.args.s.now l.i c.loop-i-test.true in (
       omega arith,
       l.invariant.1 ∙ elim c.if-s-i-ne0.branch [
-        then-s-i-ne0 w ↦ rw w.bad-is (flag_set l.bad _ _ walk (ne_eqb _ _ w.if-s-i-ne0.true))
+        | then-s-i-ne0 w ↦ rw w.bad-is (flag_set l.bad _ _ walk (ne_eqb _ _ w.if-s-i-ne0.true))
         | else-s-i-ne0 w ↦ rw w.bad-is (flag_kept l.bad _ _ walk (eq-eqb _ _ w.if-s-i-ne0.false))
       ],
     )

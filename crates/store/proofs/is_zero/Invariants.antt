@@ -1,14 +1,9 @@
 -- `store::is_zero` meets its contract. The invariant: all are zero where none that is not was seen and the rest is zero.
-use mathlib.Core.Path.{◌≡◌, refl, sym, ◌∙◌}
-use mathlib.Core.Bool.{not, ◌&&◌, and-true}
-use mathlib.Core.Logic.{⊎_elim}
+use mathlib.Core.Path.{◌≡◌}
+use mathlib.Core.Bool.{not, ◌&&◌}
 use Prim.Native.Nat.{◌≤◌, ◌-◌}
-use native.Mathlib.Omega.{arith}
-use borrow.Author.Tests.{eq-eqb, ne_eqb}
 use lib.ListN.{length, drop}
 use Rattle.store.specs.Zeros.{all_zero}
-use Rattle.store.proofs.Zeros.{zero_walk, zero_end}
-use Rattle.store.proofs.Flag.{flag_set, flag_kept}
 use Rattle.store.proofs.is_zero.Given as goal
 
 abbrev pub invariant-loop-i : goal.invariant-loop-i

@@ -1,11 +1,8 @@
 -- `store::move_down` meets its contract. The invariant: the first j bytes are moved. What a turn reads lies past what was written, so it is as it was.
-use mathlib.Core.Path.{◌≡◌, refl, sym}
+use mathlib.Core.Path.{◌≡◌}
 use Prim.Native.Nat.{◌≤◌, ◌-◌}
-use native.Mathlib.Omega.{arith}
-use lib.ListN.{length, length-set}
+use lib.ListN.{length}
 use Rattle.store.specs.Splice.{splice, part}
-use Rattle.store.proofs.Part.{splice_none}
-use Rattle.store.proofs.Run.{turn_down}
 use Rattle.store.proofs.move_down.Given as goal
 
 abbrev pub invariant-loop-j : goal.invariant-loop-j

@@ -1,12 +1,8 @@
 -- `store::move_up` meets its contract. The invariant: the bytes from j on are moved. What a turn reads lies before what was written, so it is as it was.
-use mathlib.Core.Path.{◌≡◌, refl, sym}
+use mathlib.Core.Path.{◌≡◌}
 use Prim.Native.Nat.{◌≤◌, ◌+◌, ◌-◌}
-use native.Mathlib.Omega.{arith}
-use native.Mathlib.Nat.{sub_self, add-zero, sub-zero}
-use lib.ListN.{length, length-set}
+use lib.ListN.{length}
 use Rattle.store.specs.Splice.{splice, part}
-use Rattle.store.proofs.Part.{splice_none}
-use Rattle.store.proofs.Run.{turn_up}
 use Rattle.store.proofs.move_up.Given as goal
 
 abbrev pub invariant-loop-j : goal.invariant-loop-j

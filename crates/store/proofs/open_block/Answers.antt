@@ -1,7 +1,6 @@
 -- `store::open_block` meets its contract. The blocks that move up and the zeros before them are two replacements side by side, and so one.
 use mathlib.Core.List.{List}
 use Prim.Native.Nat.{ℕ, ◌+◌, ◌-◌, ◌*◌}
-use borrow.Author.Rules.{rules}
 use native.Mathlib.Omega.{arith}
 use Rattle.store.specs.Splice.{part}
 use Rattle.store.specs.Zeros.{zeros}

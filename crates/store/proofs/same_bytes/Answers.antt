@@ -1,12 +1,8 @@
 -- `store::same_bytes` meets its contract. The invariant: the two are the same where no difference was seen and the rest is the same.
-use mathlib.Core.Path.{◌≡◌, refl, sym, ◌∙◌}
-use mathlib.Core.Bool.{not, ◌&&◌, and-true}
-use mathlib.Core.Logic.{⊎_elim}
-use Prim.Native.Nat.{◌≤◌, ◌-◌}
+use mathlib.Core.Path.{refl, sym, ◌∙◌}
+use mathlib.Core.Bool.{not, and-true}
 use native.Mathlib.Omega.{arith}
 use borrow.Author.Tests.{eq-eqb, ne_eqb}
-use lib.ListN.{length, drop}
-use Rattle.definition.specs.Table.{same_bytes}
 use Rattle.store.proofs.Same.{other_length, same_walk, same_end}
 use Rattle.store.proofs.Flag.{flag_set, flag_kept}
 use Rattle.store.proofs.same_bytes.Goals as goal
@@ -37,7 +33,7 @@ loop-i-preserved c =
     let walk = same_walk s.a.now s.b.now l.i c.loop-i-test.true (omega arith) in (
       omega arith,
       l.invariant.1 ∙ elim c.if-a-i.branch [
-        then-a-i w ↦ rw w.bad-is (flag_set l.bad _ _ walk (ne_eqb _ _ w.if-a-i.true))
+        | then-a-i w ↦ rw w.bad-is (flag_set l.bad _ _ walk (ne_eqb _ _ w.if-a-i.true))
         | else-a-i w ↦ rw w.bad-is (flag_kept l.bad _ _ walk (eq-eqb _ _ w.if-a-i.false))
       ],
     )

@@ -1,6 +1,5 @@
 -- `store::same_cell` meets its contract. What it compares are the two parts.
 use native.Mathlib.Nat.{add-sub_cancel_left}
-use borrow.Author.Rules.{rules}
 use Rattle.store.proofs.same_cell.Goals as goal
 
 pub returns : goal.returns

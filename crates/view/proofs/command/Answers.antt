@@ -1,7 +1,6 @@
 -- `command` meets its contract.
 use native.Mathlib.Omega.{arith}
 use Rattle.view.proofs.Cells.{normal_small, normal_command}
-use borrow.Author.Rules.{rules}
 use Rattle.view.proofs.command.Goals as goal
 
 pub overflow_add-end : goal.overflow_add-end
@@ -17,5 +16,4 @@ slice_bounds-result-end c =
 pub returns-in-Normal : goal.returns-in-Normal
 returns-in-Normal c =
     let g = c.in-Normal.is in
-    
     normal_command _ _ _ _ g (normal_small _ _ g c.requires.1)

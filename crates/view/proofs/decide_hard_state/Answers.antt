@@ -3,7 +3,6 @@ use mathlib.Core.Path.{ap, sym, ◌∙◌}
 use borrow.Author.Tests.{lt-ltb, le-ltb}
 use Rattle.definition.proofs.Laws.{first_join}
 use Rattle.ids.specs.Refusal.{checked_of}
-use borrow.Author.Rules.{rules}
 use Rattle.view.proofs.decide_hard_state.Goals as goal
 
 pub returns-in-Refused : goal.returns-in-Refused

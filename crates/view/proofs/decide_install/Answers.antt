@@ -1,7 +1,6 @@
 -- `decide_install` meets its contract.
 use mathlib.Core.Path.{sym, ◌∙◌}
 use borrow.Author.Tests.{eq-eqb, ne_eqb}
-use borrow.Author.Rules.{rules}
 use Rattle.view.proofs.decide_install.Goals as goal
 
 pub returns-then-term_regresses : goal.returns-then-term_regresses

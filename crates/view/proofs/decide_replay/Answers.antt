@@ -1,6 +1,5 @@
 -- `decide_replay` meets its contract.
 use borrow.Author.Tests.{le-leb, lt-leb}
-use borrow.Author.Rules.{rules}
 use Rattle.view.proofs.decide_replay.Goals as goal
 
 pub returns-then-index-h : goal.returns-then-index-h

@@ -1,6 +1,5 @@
 -- `decide_successor` meets its contract.
 use Rattle.definition.specs.Log.{snapshot_successor_rows}
-use borrow.Author.Rules.{rules}
 use Rattle.view.proofs.decide_successor.Goals as goal
 
 pub returns-in_default : goal.returns-in_default

@@ -1,6 +1,5 @@
 -- `existing_entry` meets its contract.
 use borrow.Author.Tests.{eq-eqb, ne_eqb}
-use borrow.Author.Rules.{rules}
 use Rattle.view.proofs.existing_entry.Goals as goal
 
 pub returns-then-e-r : goal.returns-then-e-r

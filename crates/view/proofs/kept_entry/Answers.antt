@@ -1,5 +1,4 @@
 -- `kept_entry` meets its contract.
-use borrow.Author.Rules.{rules}
 use Rattle.view.proofs.kept_entry.Goals as goal
 
 pub returns : goal.returns

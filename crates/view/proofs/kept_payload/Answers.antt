@@ -1,5 +1,4 @@
 -- `kept_payload` meets its contract.
-use borrow.Author.Rules.{rules}
 use Rattle.view.proofs.kept_payload.Goals as goal
 
 pub returns-in-Normal : goal.returns-in-Normal

@@ -1,5 +1,4 @@
 -- `normalized` meets its contract.
-use borrow.Author.Rules.{rules}
 use Rattle.view.proofs.normalized.Goals as goal
 
 pub returns-in_default : goal.returns-in_default

@@ -1,6 +1,5 @@
 -- `normalized_from` meets its contract.
 use borrow.Author.Tests.{lt-ltb, le-ltb}
-use borrow.Author.Rules.{rules}
 use Rattle.view.proofs.normalized_from.Goals as goal
 
 pub returns-then-old-m : goal.returns-then-old-m

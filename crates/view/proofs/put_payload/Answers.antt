@@ -1,6 +1,5 @@
 -- `put_payload` meets its contract.
 use Rattle.view.proofs.Kept.{command_there}
-use borrow.Author.Rules.{rules}
 use Rattle.view.proofs.put_payload.Goals as goal
 
 pub put_cell-requires : goal.put_cell-requires

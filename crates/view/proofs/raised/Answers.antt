@@ -1,5 +1,4 @@
 -- `raised` meets its contract.
-use borrow.Author.Rules.{rules}
 use Rattle.view.proofs.raised.Goals as goal
 
 pub returns-in_default : goal.returns-in_default

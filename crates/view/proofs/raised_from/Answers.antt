@@ -1,6 +1,5 @@
 -- `raised_from` meets its contract.
 use borrow.Author.Tests.{lt-ltb, le-ltb}
-use borrow.Author.Rules.{rules}
 use Rattle.view.proofs.raised_from.Goals as goal
 
 pub returns-then-old-p : goal.returns-then-old-p

@@ -1,5 +1,4 @@
 -- `replay` meets its contract.
-use borrow.Author.Rules.{rules}
 use Rattle.view.proofs.replay.Goals as goal
 
 pub returns-in-None : goal.returns-in-None

@@ -1,6 +1,5 @@
 -- `replay_held` meets its contract.
-use borrow.Author.Tests.{eq-eqb, ne_eqb, lt-ltb, le-ltb, le-leb, lt-leb, not-true, not-false}
-use borrow.Author.Rules.{rules}
+use borrow.Author.Tests.{eq-eqb, ne_eqb, lt-ltb, le-ltb, le-leb, lt-leb}
 use Rattle.view.proofs.replay_held.Goals as goal
 
 pub returns-then-not-same_payload : goal.returns-then-not-same_payload

@@ -1,7 +1,6 @@
 -- `replay_new` meets its contract.
 use mathlib.Core.Path.{sym, ◌∙◌}
 use borrow.Author.Tests.{eq-eqb, ne_eqb, lt-ltb, le-ltb, le-leb, lt-leb}
-use borrow.Author.Rules.{rules}
 use Rattle.view.proofs.replay_new.Goals as goal
 
 pub returns-then-missing_prefix : goal.returns-then-missing_prefix

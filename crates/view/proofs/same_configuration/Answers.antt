@@ -1,6 +1,5 @@
 -- `same_configuration` meets its contract.
 use borrow.Author.Tests.{eq-eqb, ne_eqb}
-use borrow.Author.Rules.{rules}
 use Rattle.view.proofs.same_configuration.Goals as goal
 
 pub returns-in_default : goal.returns-in_default

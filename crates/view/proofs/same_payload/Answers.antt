@@ -1,7 +1,6 @@
 -- `same_payload` meets its contract.
 use mathlib.Core.Path.{sym, ◌∙◌}
 use Rattle.view.proofs.Kept.{cells_there, cells_same}
-use borrow.Author.Rules.{rules}
 use Rattle.view.proofs.same_payload.Goals as goal
 
 pub same_cell-requires : goal.same_cell-requires

@@ -1,8 +1,7 @@
 -- `snapshot_follows` meets its contract.
 use mathlib.Core.Path.{sym, ◌∙◌, refl}
-use borrow.Author.Tests.{eq-eqb, ne_eqb, lt-ltb, le-ltb, not-true, not-false}
+use borrow.Author.Tests.{eq-eqb, ne_eqb, lt-ltb, le-ltb}
 use Rattle.definition.specs.Log.{snapshot_successor_rows}
-use borrow.Author.Rules.{rules}
 use Rattle.view.proofs.snapshot_follows.Goals as goal
 
 pub returns-then-p-old : goal.returns-then-p-old

@@ -1,7 +1,6 @@
 -- `check_entry` meets its contract.
 use mathlib.Core.Path.{sym, ◌∙◌}
 use borrow.Author.Tests.{eq-eqb, ne_eqb}
-use borrow.Author.Rules.{rules}
 use Rattle.batches.proofs.entry.check_entry.Goals as goal
 
 pub returns-then-lsn_exhausted : goal.returns-then-lsn_exhausted

@@ -3,7 +3,6 @@ use mathlib.Core.Path.{ap, sym, ◌∙◌}
 use borrow.Author.Tests.{eq-eqb, ne_eqb, lt-ltb, le-ltb}
 use Rattle.ids.specs.Refusal.{checked_of}
 use Rattle.batches.proofs.Joins.{hard_join}
-use borrow.Author.Rules.{rules}
 use Rattle.batches.proofs.hard_state.check_hard_state.Goals as goal
 
 pub returns-then-zero_vote : goal.returns-then-zero_vote

@@ -1,6 +1,5 @@
 -- `check_terms` meets its contract.
 use borrow.Author.Tests.{lt-ltb, le-ltb}
-use borrow.Author.Rules.{rules}
 use Rattle.batches.proofs.hard_state.check_terms.Goals as goal
 
 pub returns-then-larger-largest : goal.returns-then-larger-largest

@@ -2,7 +2,6 @@
 use mathlib.Core.Path.{ap, sym, ◌∙◌}
 use Rattle.definition.proofs.Laws.{first_join}
 use Rattle.ids.specs.Refusal.{checked_of}
-use borrow.Author.Rules.{rules}
 use Rattle.batches.proofs.pointer.check_placed.Goals as goal
 
 pub returns-in-Refused : goal.returns-in-Refused

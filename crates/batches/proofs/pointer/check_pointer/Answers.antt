@@ -1,10 +1,8 @@
 -- `check_pointer` meets its contract.
 use mathlib.Core.Path.{ap, sym, ◌∙◌}
-use borrow.Author.Tests.{not-true, not-false}
 use Rattle.ids.specs.Identity.{identity_of}
 use Rattle.ids.specs.Refusal.{checked_of}
 use Rattle.batches.proofs.Joins.{pointer_join}
-use borrow.Author.Rules.{rules}
 use Rattle.batches.proofs.pointer.check_pointer.Goals as goal
 
 pub returns-in-Refused : goal.returns-in-Refused

@@ -2,7 +2,6 @@
 use mathlib.Core.Path.{◌∙◌}
 use borrow.Author.Tests.{ne_eqb}
 use Rattle.batches.proofs.Form.{form_rows_lem}
-use borrow.Author.Rules.{rules}
 use Rattle.batches.proofs.pointer.check_pointer_form.Goals as goal
 
 pub returns-then-p-ne-RAFT_SNAPSHOT_POINTER_RECORD_VERSION : goal.returns-then-p-ne-RAFT_SNAPSHOT_POINTER_RECORD_VERSION

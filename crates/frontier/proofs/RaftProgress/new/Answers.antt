@@ -1,6 +1,5 @@
 -- `RaftProgress::new` meets its contract: the progress, or what `validate` refuses it by.
 use mathlib.Core.Path.{◌∙◌, sym, ap}
-use borrow.Author.Rules.{rules}
 use Rattle.definition.specs.Frontier.{new_progress, validate_progress}
 use Rattle.ids.specs.Refusal.{checked_of}
 use Rattle.frontier.proofs.RaftProgress.new.Goals as goal

@@ -1,6 +1,5 @@
 -- `RaftProgress::validate_successor` meets its contract: what `validate` refuses it by, else the first of 54 to 56.
 use mathlib.Core.Path.{◌∙◌, sym, ap}
-use borrow.Author.Rules.{rules}
 use borrow.Author.Tests.{eq-eqb, ne_eqb, lt-ltb, le-ltb}
 use Rattle.definition.specs.Frontier.{progress_successor_rows, validate_progress, validate_progress_successor}
 use Rattle.ids.specs.Refusal.{checked_of}

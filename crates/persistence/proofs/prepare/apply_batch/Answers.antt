@@ -3,7 +3,6 @@ use mathlib.Core.Path.{◌∙◌}
 use Rattle.ids.specs.Identity.{identity_of}
 use Rattle.persistence.specs.Prepare.{point_in, entries_ran}
 use Rattle.persistence.proofs.Pointed.{followed_out, followed_in, pointed_sits, pointed_is}
-use borrow.Author.Rules.{rules}
 use Rattle.persistence.proofs.prepare.apply_batch.Goals as goal
 
 pub returns-in-Refused : goal.returns-in-Refused

@@ -1,6 +1,5 @@
 -- `prepare::conclude` meets its contract.
 use Rattle.persistence.proofs.Pointed.{conclude_out, conclude_in}
-use borrow.Author.Rules.{rules}
 use Rattle.persistence.proofs.prepare.conclude.Goals as goal
 
 pub returns-in-Refused : goal.returns-in-Refused

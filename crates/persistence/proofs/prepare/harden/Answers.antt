@@ -1,6 +1,5 @@
 -- `prepare::harden` meets its contract.
 use Rattle.persistence.proofs.Pointed.{harden_out, harden_in_lem}
-use borrow.Author.Rules.{rules}
 use Rattle.persistence.proofs.prepare.harden.Goals as goal
 
 pub returns-in-Refused : goal.returns-in-Refused

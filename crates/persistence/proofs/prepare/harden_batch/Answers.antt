@@ -2,7 +2,6 @@
 use mathlib.Core.Path.{sym, ap, ◌∙◌}
 use Rattle.codec.specs.declared.MaybeHardState.{MaybeHardState}
 use Rattle.persistence.specs.Prepare.{harden_in}
-use borrow.Author.Rules.{rules}
 use Rattle.persistence.proofs.prepare.harden_batch.Goals as goal
 
 pub returns-in_default : goal.returns-in_default

@@ -1,10 +1,7 @@
 -- `prepare::largest_term` meets its contract. The invariant: the largest term of all is the largest so far or of those left.
-use Prim.Native.Nat.{◌-◌, ◌+◌, ◌≤◌, ◌<◌}
-use mathlib.Core.Path.{◌≡◌, refl, sym, ap, ◌∙◌}
-use native.Mathlib.Omega.{arith}
-use lib.ListN.{length, length-map}
-use borrow.Author.Rules.{rules}
-use Rattle.persistence.proofs.Moved.{Largest, largest_start, largest_turn, largest_end, largest_past}
+use Prim.Native.Nat.{◌-◌}
+use mathlib.Core.Path.{◌≡◌}
+use Rattle.persistence.proofs.Moved.{Largest}
 use Rattle.persistence.proofs.prepare.largest_term.Given as goal
 
 abbrev pub invariant-loop-q : goal.invariant-loop-q

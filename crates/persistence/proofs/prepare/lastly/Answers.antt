@@ -2,7 +2,6 @@
 use mathlib.Core.Path.{◌∙◌}
 use Rattle.persistence.specs.Prepare.{harden_in, conclude_ran}
 use Rattle.persistence.proofs.Pointed.{followed_out, followed_in, concluded_is, lastly_is}
-use borrow.Author.Rules.{rules}
 use Rattle.persistence.proofs.prepare.lastly.Goals as goal
 
 pub returns-in-Refused : goal.returns-in-Refused

@@ -1,10 +1,10 @@
 -- `prepare::move_entries` meets its contract. The invariant: the first j entries are moved.
-use Prim.Native.Nat.{◌-◌, ◌+◌, ◌≤◌, ◌<◌}
-use mathlib.Core.Path.{◌≡◌, refl, sym, ap, ◌∙◌}
+use Prim.Native.Nat.{◌-◌}
+use mathlib.Core.Path.{◌≡◌, refl}
 use native.Mathlib.Omega.{arith}
-use lib.ListN.{length, length-map}
+use lib.ListN.{length}
 use borrow.Author.Rules.{rules}
-use Rattle.persistence.proofs.Moved.{Moving, move_start, move_turn, move_end}
+use Rattle.persistence.proofs.Moved.{move_start, move_turn, move_end}
 use Rattle.persistence.proofs.prepare.move_entries.Goals as goal
 
 pub loop-j-init : goal.loop-j-init

@@ -1,10 +1,6 @@
 -- `prepare::move_entries` meets its contract. The invariant: the first j entries are moved.
-use Prim.Native.Nat.{◌-◌, ◌+◌, ◌≤◌, ◌<◌}
-use mathlib.Core.Path.{◌≡◌, refl, sym, ap, ◌∙◌}
-use native.Mathlib.Omega.{arith}
-use lib.ListN.{length, length-map}
-use borrow.Author.Rules.{rules}
-use Rattle.persistence.proofs.Moved.{Moving, move_start, move_turn, move_end}
+use Prim.Native.Nat.{◌-◌}
+use Rattle.persistence.proofs.Moved.{Moving}
 use Rattle.persistence.proofs.prepare.move_entries.Given as goal
 
 abbrev pub invariant-loop-j : goal.invariant-loop-j

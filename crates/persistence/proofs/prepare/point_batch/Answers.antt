@@ -3,7 +3,6 @@ use mathlib.Core.Path.{sym, ap, ◌∙◌}
 use Rattle.ids.specs.Identity.{identity_of}
 use Rattle.codec.specs.declared.MaybePointer.{MaybePointer}
 use Rattle.persistence.specs.Prepare.{point_in}
-use borrow.Author.Rules.{rules}
 use Rattle.persistence.proofs.prepare.point_batch.Goals as goal
 
 pub returns-in_default : goal.returns-in_default

@@ -5,7 +5,6 @@ use Rattle.preview.specs.declared.Preview.{Preview}
 use Rattle.preview.specs.Preview.{Sits}
 use Rattle.persistence.specs.Prepare.{beginning, prepare_ran}
 use Rattle.persistence.proofs.Pointed.{batch_few, prepare_out, prepare_in}
-use borrow.Author.Rules.{rules}
 use Rattle.persistence.proofs.prepare.prepare_on.Goals as goal
 
 pub returns-in-Refused : goal.returns-in-Refused

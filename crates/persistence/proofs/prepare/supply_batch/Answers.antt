@@ -3,7 +3,6 @@ use mathlib.Core.Path.{◌∙◌}
 use Rattle.preview.specs.Preview.{extend_from}
 use Rattle.persistence.specs.Prepare.{lastly_ran}
 use Rattle.persistence.proofs.Pointed.{followed_out, followed_in, entries_is}
-use borrow.Author.Rules.{rules}
 use Rattle.persistence.proofs.prepare.supply_batch.Goals as goal
 
 pub returns-in-Refused : goal.returns-in-Refused

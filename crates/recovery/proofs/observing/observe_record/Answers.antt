@@ -1,6 +1,5 @@
 -- `observing::observe_record` meets its contract.
 use mathlib.Core.Path.{refl}
-use borrow.Author.Rules.{rules}
 use Rattle.recovery.proofs.One.{one_observes}
 use Rattle.recovery.proofs.observing.observe_record.Goals as goal
 

@@ -1,11 +1,10 @@
 -- `observing::observe_records` meets its contract. The invariant: what is asked of the chunk is what is asked of the rest of it.
 -- Entries are moved down in their block: the first j of them.
 use mathlib.Core.Path.{◌≡◌, refl, sym, ap, ◌∙◌}
-use Prim.Native.Nat.{◌+◌, ◌-◌, ◌*◌, ◌<◌, ◌≤◌}
+use Prim.Native.Nat.{◌+◌, ◌-◌, ◌*◌, ◌≤◌}
 use native.Mathlib.Omega.{arith}
 use borrow.Author.Rules.{rules}
-use borrow.Author.Tests.{not-true, not-false}
-use lib.ListN.{length, length-map, length-set, get_or, take}
+use lib.ListN.{length, length-set, get_or, take}
 use Rattle.definition.specs.Log as D
 use Rattle.ids.specs.Refusal.{checked_of}
 use Rattle.codec.specs.Records.{owner_of}
@@ -17,8 +16,8 @@ use Rattle.storage.specs.declared.RecoveredRaftStorage.{RecoveredRaftStorage}
 use Rattle.storage.specs.Model.{head_at}
 use Rattle.storage.specs.Place.{owners_of}
 use Rattle.storage.proofs.Place.{owners_set}
-use Rattle.placing.proofs.Moves.{entries_down, down_none, entries_down_turn}
-use Rattle.recovery.proofs.Chunking.{Chunking, no_record, most_is, chunk_size, chunk_at, runs_most, index_fits_lem, chunk_start, chunk_end, chunk_takes, chunk_refused, chunk_opened, at_take, taken_length}
+use Rattle.placing.proofs.Moves.{down_none, entries_down_turn}
+use Rattle.recovery.proofs.Chunking.{no_record, most_is, chunk_size, chunk_at, runs_most, index_fits_lem, chunk_start, chunk_end, chunk_takes, chunk_refused, chunk_opened, at_take, taken_length}
 use Rattle.recovery.proofs.Running.{runs_unsound}
 use Rattle.routing.proofs.Stepped.{stepped_stale, stepped_foreign, stepped_malformed, stepped_full, stepped_held}
 use Rattle.recovery.proofs.Turn.{found_of, owners_kept, at_below, missing_within, scanned_by, place_is, place_before, look_in, refused_drops, settleable_at, settled_here, settled_moved, back_length, not_refused, lent_length, moved_fits, ran_answer}

@@ -1,6 +1,5 @@
 -- `Header::last` meets its contract.
 use borrow.Author.Tests.{eq-eqb, ne_eqb}
-use borrow.Author.Rules.{rules}
 use Rattle.view.proofs.Header.last.Goals as goal
 
 pub returns-then-self-eq0 : goal.returns-then-self-eq0

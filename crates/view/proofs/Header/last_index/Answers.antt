@@ -1,6 +1,5 @@
 -- `Header::last_index` meets its contract.
 use borrow.Author.Tests.{eq-eqb, ne_eqb}
-use borrow.Author.Rules.{rules}
 use Rattle.view.proofs.Header.last_index.Goals as goal
 
 pub returns-then-self-ne0 : goal.returns-then-self-ne0

@@ -1,6 +1,5 @@
 -- `Header::normalize_hard_state_term` meets its contract.
 use borrow.Author.Tests.{eq-eqb, ne_eqb}
-use borrow.Author.Rules.{rules}
 use Rattle.view.proofs.Header.normalize_hard_state_term.Goals as goal
 
 pub returns-then-m-eq0 : goal.returns-then-m-eq0

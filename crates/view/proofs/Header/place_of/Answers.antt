@@ -1,6 +1,5 @@
 -- `Header::place_of` meets its contract.
 use borrow.Author.Tests.{lt-ltb, le-ltb, le-leb, lt-leb}
-use borrow.Author.Rules.{rules}
 use Rattle.view.proofs.Header.place_of.Goals as goal
 
 pub returns-then-index-first : goal.returns-then-index-first

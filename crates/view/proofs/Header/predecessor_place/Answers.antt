@@ -1,5 +1,4 @@
 -- `Header::predecessor_place` meets its contract.
-use borrow.Author.Rules.{rules}
 use Rattle.view.proofs.Header.predecessor_place.Goals as goal
 
 pub returns-then-index-eq0 : goal.returns-then-index-eq0

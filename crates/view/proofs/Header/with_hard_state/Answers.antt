@@ -1,5 +1,4 @@
 -- `Header::with_hard_state` meets its contract.
-use borrow.Author.Rules.{rules}
 use Rattle.view.proofs.Header.with_hard_state.Goals as goal
 
 pub returns : goal.returns

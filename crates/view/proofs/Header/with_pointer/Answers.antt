@@ -1,5 +1,4 @@
 -- `Header::with_pointer` meets its contract.
-use borrow.Author.Rules.{rules}
 use Rattle.view.proofs.Header.with_pointer.Goals as goal
 
 pub returns : goal.returns
