@@ -14,7 +14,6 @@ returns-then-not-is_sound c =
 pub finish_all-next-requires : goal.finish_all-next-requires
 finish_all-next-requires c =
     let a = c.args in
-    let g = c.well_formed in
     let eight : length a.state.heads ≡ 8 = search rules in
     let all : length a.state.entries ≡ 512 = search rules in
     (test_sound a.state a.store.now eight all (sym c.is_sound.ensures ∙ c.if-not-is_sound.false)).limits
@@ -22,7 +21,6 @@ finish_all-next-requires c =
 pub returns : goal.returns
 returns c =
     let a = c.args in
-    let g = c.well_formed in
     let eight : length a.state.heads ≡ 8 = search rules in
     let all : length a.state.entries ≡ 512 = search rules in
     finishes_sound a.state a.store.now _ eight all (sym c.is_sound.ensures ∙ c.if-not-is_sound.false) (simp c.finish_all-next.ensures)

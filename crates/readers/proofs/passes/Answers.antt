@@ -5,7 +5,6 @@ use Rattle.readers.proofs.passes.Goals as goal
 pub returns : goal.returns
 returns c =
     let a = c.args in
-    let g = c.well_formed in
     record {
       test = c.is_sound.ensures;
       eight = search rules;

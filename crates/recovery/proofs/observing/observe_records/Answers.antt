@@ -33,7 +33,6 @@ pub loop-i-init : goal.loop-i-init
 loop-i-init c =
     let at_most = c.at_most-n in
     let a = c.args in
-    let g = c.well_formed in
     let eight : length a.state.heads ≡ 8 = search rules in
     let all : length a.state.entries ≡ 512 = search rules in
     let records : length a.records ≡ 256 = search rules in
