@@ -20,65 +20,64 @@ STAGES = [                  # files of tests, the quick ones first; a stage is r
     ['Refusals', 'Checks', 'Batches'], ['Effects', 'Soundness', 'Readers', 'Cells'], ['Starred', 'TwoLists'], ['Stores'],
 ]
 MACHINERY = {               # not rules: tables, options and lists, or what only the proofs and the store's laws speak of
-    'Table': ['sameBytes', 'present', 'every', 'all-of', 'ifSome', 'isSome', 'orZero', 'unless', 'first-of', '_=?_', '_≠?_', '_<?_', '_≤?_', 'if_then_else_'],
+    'Table': ['same_bytes', 'present', 'every', 'all_of', 'if_some', 'is_some', 'or_zero', 'unless', 'first_of', '◌=?◌', '◌≠?◌', '◌<?◌', '◌≤?◌'],
 }
 IMPORTS = {                 # names that a mutant may need
-    'mathlib.Core.Bool': ['Bool', 'true', 'false', '_&&_', '_||_', 'not'],
-    'Rattle·definition·specs.specs.Table': ['_=?_', '_≠?_', '_<?_', '_≤?_', 'u64-max'],
-    'Prim.Native.Nat': ['min', 'max'],
-    'mathlib.Core.Option': ['none', 'some'],
+    'Rattle.std.specs.Prelude': ['Bool', 'true', 'false', '◌&&◌', '◌||◌', 'not', 'min', 'max'],
+    'Rattle.std.proofs.Math.Option': ['none', 'some'],
+    'Rattle.definition.specs.Table': ['◌=?◌', '◌≠?◌', '◌<?◌', '◌≤?◌', 'u64_max'],
 }
-SWAPS = [('.lastIncludedIndex', '.lastIncludedTerm'), ('.snapshotIndex', '.snapshotTerm'), ('.group', '.replica'), ('.currentTerm', '.commit'),
-         ('.truncatedThroughIndex', '.truncatedThroughTerm'), ('.appliedIndex', '.truncatedThroughIndex'), ('.snapshotPointerLsn', '.hardStateLsn'),
-         ('.index', '.term'), ('was .hardState', 'v .log .hardState'), ('keptPointer i was', 'keptPointer i (v .log)'), ('.committedIndex', '.snapshotIndex')]
+SWAPS = [('.last_included_index', '.last_included_term'), ('.snapshot_index', '.snapshot_term'), ('.group', '.replica'), ('.current_term', '.commit'),
+         ('.truncated_through_index', '.truncated_through_term'), ('.applied_index', '.truncated_through_index'), ('.snapshot_pointer_lsn', '.hard_state_lsn'),
+         ('.index', '.term'), ('was.hard_state', 'v.log.hard_state'), ('kept_pointer i was', 'kept_pointer i v.log'), ('.committed_index', '.snapshot_index')]
 OTHER = {                   # what a field of an effect may wrongly become
-    'entries': ['[]', 'log .entries'], 'snapshotIndex': ['0', 'log .snapshotIndex'], 'snapshotTerm': ['0', 'log .snapshotTerm'],
-    'committedIndex': ['0', 'log .committedIndex'], 'lastReplayedLsn': ['none', 'log .lastReplayedLsn'], 'progress': ['progressAt 0 0', 'log .progress'],
-    'hardState': ['none', 'log .hardState'], 'hardStateLsn': ['none', 'some t', 'log .hardStateLsn'], 'snapshot': ['none', 'log .snapshot'],
-    'snapshotPointerLsn': ['none', 'some t', 'log .snapshotPointerLsn'], 'votedFor': ['none', 'o .votedFor'], 'lsn': ['v .lsn'],
-    'lastScannedLsn': ['none', 's .lastScannedLsn'], 'replicas': ['[]', 's .replicas'], 'scannedRecords': ['s .scannedRecords'],
+    'entries': ['[]', 'log.entries'], 'snapshot_index': ['0', 'log.snapshot_index'], 'snapshot_term': ['0', 'log.snapshot_term'],
+    'committed_index': ['0', 'log.committed_index'], 'last_replayed_lsn': ['none', 'log.last_replayed_lsn'], 'progress': ['progress_at 0 0', 'log.progress'],
+    'hard_state': ['none', 'log.hard_state'], 'hard_state_lsn': ['none', 'some t', 'log.hard_state_lsn'], 'snapshot': ['none', 'log.snapshot'],
+    'snapshot_pointer_lsn': ['none', 'some t', 'log.snapshot_pointer_lsn'], 'voted_for': ['none', 'o.voted_for'], 'lsn': ['v.lsn'],
+    'last_scanned_lsn': ['none', 's.last_scanned_lsn'], 'replicas': ['[]', 's.replicas'], 'scanned_records': ['s.scanned_records'],
 }
 
 # neighbours that stand in expressions: file, declaration, old, new
 MORE = [
-    ('Frontier', 'progressSuccessorRows', 'truncationRegression p previous ∷ appliedRegression p previous', 'appliedRegression p previous ∷ truncationRegression p previous'),
-    ('Frontier', 'progressSuccessorRows', 'appliedRegression p previous ∷ boundaryTermChanged p previous', 'boundaryTermChanged p previous ∷ appliedRegression p previous'),
-    ('Frontier', 'progressSuccessorRows', 'progressRows p ++ truncationRegression p previous ∷ appliedRegression p previous ∷ boundaryTermChanged p previous ∷ []', 'truncationRegression p previous ∷ progressRows p ++ appliedRegression p previous ∷ boundaryTermChanged p previous ∷ []'),
-    ('Log', 'rows', 'entryAtOrBelowTruncation e log ∷ replayRows e log', 'replayRows e log ++ entryAtOrBelowTruncation e log ∷ []'),
-    ('Log', 'rows', 'hardStateSuccessorRows h (log .hardState) ++ hardStateCommitBeyondRecoveredLog h log ∷ viewCommitRegression h log ∷ []', 'hardStateCommitBeyondRecoveredLog h log ∷ hardStateSuccessorRows h (log .hardState) ++ viewCommitRegression h log ∷ []'),
-    ('Log', 'rows', 'hardStateCommitBeyondRecoveredLog h log ∷ viewCommitRegression h log ∷ []', 'viewCommitRegression h log ∷ hardStateCommitBeyondRecoveredLog h log ∷ []'),
-    ('Log', 'rows', 'snapshotSuccessorRows (record { identity = i; snapshot = p }) (keptPointer i log) ++ installRows p log', 'installRows p log ++ snapshotSuccessorRows (record { identity = i; snapshot = p }) (keptPointer i log)'),
-    ('Log', 'validateHardStateSuccessor', 'map zeroVotedForReplicaId (h ∷ present old) ++ zeroCurrentTerm h ∷ hardStateSuccessorRows h old', 'zeroCurrentTerm h ∷ map zeroVotedForReplicaId (h ∷ present old) ++ hardStateSuccessorRows h old'),
-    ('Log', 'validateHardStateSuccessor', 'zeroCurrentTerm h ∷ hardStateSuccessorRows h old', 'hardStateSuccessorRows h old ++ zeroCurrentTerm h ∷ []'),
-    ('Log', 'validateHardStateSuccessor', '(h ∷ present old)', '(h ∷ [])'),
-    ('Recovery', 'observeState', 'unsoundState s ∷ nonIncreasingWalLsn s (r .lsn) ∷ []', 'nonIncreasingWalLsn s (r .lsn) ∷ unsoundState s ∷ []'),
-    ('Recovery', 'visit', 'formRows i k ++ tooManyReplicas full was ∷ []', 'tooManyReplicas full was ∷ formRows i k'),
-    ('Recovery', 'admitted', 'admitted (some n) i k t was = out (refused n) none', 'admitted (some n) i k t was = out (refused n) (some (Option·getD was empty))'),
+    ('Frontier', 'progress_successor_rows', 'truncation_regression p previous ∷ applied_regression p previous', 'applied_regression p previous ∷ truncation_regression p previous'),
+    ('Frontier', 'progress_successor_rows', 'applied_regression p previous ∷ boundary_term_changed p previous', 'boundary_term_changed p previous ∷ applied_regression p previous'),
+    ('Frontier', 'progress_successor_rows', 'progress_rows p ++ truncation_regression p previous ∷ applied_regression p previous ∷ boundary_term_changed p previous ∷ []', 'truncation_regression p previous ∷ progress_rows p ++ applied_regression p previous ∷ boundary_term_changed p previous ∷ []'),
+    ('Log', 'rows', 'entry_at_or_below_truncation e log ∷ replay_rows e log', 'replay_rows e log ++ entry_at_or_below_truncation e log ∷ []'),
+    ('Log', 'rows', 'hard_state_successor_rows h log.hard_state ++ hard_state_commit_beyond_recovered_log h log ∷ view_commit_regression h log ∷ []', 'hard_state_commit_beyond_recovered_log h log ∷ hard_state_successor_rows h log.hard_state ++ view_commit_regression h log ∷ []'),
+    ('Log', 'rows', 'hard_state_commit_beyond_recovered_log h log ∷ view_commit_regression h log ∷ []', 'view_commit_regression h log ∷ hard_state_commit_beyond_recovered_log h log ∷ []'),
+    ('Log', 'rows', 'snapshot_successor_rows (record { identity = i; snapshot = p }) (kept_pointer i log) ++ install_rows p log', 'install_rows p log ++ snapshot_successor_rows (record { identity = i; snapshot = p }) (kept_pointer i log)'),
+    ('Log', 'validate_hard_state_successor', 'map zero_voted_for_replica_id (h ∷ present old) ++ zero_current_term h ∷ hard_state_successor_rows h old', 'zero_current_term h ∷ map zero_voted_for_replica_id (h ∷ present old) ++ hard_state_successor_rows h old'),
+    ('Log', 'validate_hard_state_successor', 'zero_current_term h ∷ hard_state_successor_rows h old', 'hard_state_successor_rows h old ++ zero_current_term h ∷ []'),
+    ('Log', 'validate_hard_state_successor', '(h ∷ present old)', '(h ∷ [])'),
+    ('Recovery', 'observe_state', 'unsound_state s ∷ non_increasing_wal_lsn s r.lsn ∷ []', 'non_increasing_wal_lsn s r.lsn ∷ unsound_state s ∷ []'),
+    ('Recovery', 'visit', 'form_rows i k ++ too_many_replicas full was ∷ []', 'too_many_replicas full was ∷ form_rows i k'),
+    ('Recovery', 'admitted', 'admitted (some n) i k t was = out (refused n) none', 'admitted (some n) i k t was = out (refused n) (some (get_or was empty))'),
     ('Recovery', 'judged', 'judged (some n) k t log = out (refused n) (some log)', 'judged (some n) k t log = out (refused n) none'),
     ('Recovery', 'judged', 'judged (some n) k t log = out (refused n) (some log)', 'judged (some n) k t log = out (refused n) (some (accept k t log))'),
-    ('Recovery', 'guarded', 'guarded (some n) s lsn c = out (refused n) s', 'guarded (some n) s lsn c = out (refused n) (scan s lsn (s .replicas))'),
-    ('Recovery', 'keptLsns', 'present (log .snapshotPointerLsn) ++ ', ''),
-    ('Recovery', 'keptLsns', 'present (log .hardStateLsn) ++ ', ''),
-    ('Recovery', 'keptLsns', ' ++ present (log .lastReplayedLsn)', ''),
-    ('Recovery', 'keptLsns', 'map (λ e. e .lsn) (log .entries) ++ ', ''),
-    ('Recovery', 'minimumRecoveryLsn', '(least (log .hardStateLsn) (firstRetainedLsn log))', '(firstRetainedLsn log)'),
-    ('Recovery', 'minimumRecoveryLsn', '(least (log .hardStateLsn) (firstRetainedLsn log))', '(log .hardStateLsn)'),
-    ('Recovery', 'finishState', 'out finished (normalizedState s)', 'out finished s'),
-    ('Recovery', 'stored', 'store = layout (o .next .replicas)', 'store = []'),
-    ('Batch', 'pointed', 'pointed (some p) v = previewed (batchPointerRows p v) (previewPointer p v)', 'pointed (some p) v = previewed (batchPointerRows p v) v'),
-    ('Batch', 'extended', '(previewEntry i (e .logEntry) v) (extended es)', 'v (extended es)'),
-    ('Batch', 'hardened', '(previewHardState i h v) concluded', 'v concluded'),
-    ('Batch', 'concluded', 'previewed (hardStateBeforeLogTerm b was v ∷ []) v ok', 'ok v'),
-    ('Batch', 'shownAs', 'some f ↦ ofBatch f (length bytes)', 'some f ↦ ofLog at (length bytes)'),
-    ('Batch', 'shownBytes', 'shownBytes store lent nothing = []', 'shownBytes store lent nothing = store'),
-    ('Batch', 'shownBytes', '(ofLog from n) = take n (drop from store)', '(ofLog from n) = take n (drop from lent)'),
-    ('Batch', 'shownBytes', '(ofLog from n) = take n (drop from store)', '(ofLog from n) = take from (drop n store)'),
-    ('Batch', 'shownBytes', '(ofBatch from n) = take n (drop from lent)', '(ofBatch from n) = take n (drop from store)'),
-    ('Batch', 'shownBytes', '(ofBatch from n) = take n (drop from lent)', '(ofBatch from n) = take from (drop n lent)'),
-    ('Batch', 'supplied', 'if isSome later then later else', 'if not (isSome later) then later else'),
-    ('Chaining', 'validateHardState', 'zeroVotedForReplicaId h ∷ zeroCurrentTerm h ∷ []', 'zeroCurrentTerm h ∷ zeroVotedForReplicaId h ∷ []'),
-    ('Chaining', 'validateHardState', 'zeroVotedForReplicaId h ∷ zeroCurrentTerm h ∷ []', 'zeroVotedForReplicaId h ∷ []'),
-    ('Chaining', 'validateHardState', 'zeroVotedForReplicaId h ∷ zeroCurrentTerm h ∷ []', 'zeroCurrentTerm h ∷ []'),
+    ('Recovery', 'guarded', 'guarded (some n) s lsn c = out (refused n) s', 'guarded (some n) s lsn c = out (refused n) (scan s lsn s.replicas)'),
+    ('Recovery', 'kept_lsns', 'present log.snapshot_pointer_lsn ++ ', ''),
+    ('Recovery', 'kept_lsns', 'present log.hard_state_lsn ++ ', ''),
+    ('Recovery', 'kept_lsns', ' ++ present log.last_replayed_lsn', ''),
+    ('Recovery', 'kept_lsns', 'map (λ e. e.lsn) log.entries ++ ', ''),
+    ('Recovery', 'minimum_recovery_lsn', '(least log.hard_state_lsn (first_retained_lsn log))', '(first_retained_lsn log)'),
+    ('Recovery', 'minimum_recovery_lsn', '(least log.hard_state_lsn (first_retained_lsn log))', 'log.hard_state_lsn'),
+    ('Recovery', 'finish_state', 'out finished (normalized_state s)', 'out finished s'),
+    ('Recovery', 'stored', 'store = layout o.next.replicas', 'store = []'),
+    ('Batch', 'pointed', 'pointed (some p) v = previewed (batch_pointer_rows p v) (preview_pointer p v)', 'pointed (some p) v = previewed (batch_pointer_rows p v) v'),
+    ('Batch', 'extended', '(preview_entry i e.log_entry v) (extended es)', 'v (extended es)'),
+    ('Batch', 'hardened', '(preview_hard_state i h v) concluded', 'v concluded'),
+    ('Batch', 'concluded', 'previewed (hard_state_before_log_term b was v ∷ []) v ok', 'ok v'),
+    ('Batch', 'shown_as', 'some f ↦ of_batch f (length bytes)', 'some f ↦ of_log at (length bytes)'),
+    ('Batch', 'shown_bytes', 'shown_bytes store lent nothing = []', 'shown_bytes store lent nothing = store'),
+    ('Batch', 'shown_bytes', '(of_log from n) = take n (drop from store)', '(of_log from n) = take n (drop from lent)'),
+    ('Batch', 'shown_bytes', '(of_log from n) = take n (drop from store)', '(of_log from n) = take from (drop n store)'),
+    ('Batch', 'shown_bytes', '(of_batch from n) = take n (drop from lent)', '(of_batch from n) = take n (drop from store)'),
+    ('Batch', 'shown_bytes', '(of_batch from n) = take n (drop from lent)', '(of_batch from n) = take from (drop n lent)'),
+    ('Batch', 'supplied', 'if is_some later then later else', 'if not (is_some later) then later else'),
+    ('Chaining', 'validate_hard_state', 'zero_voted_for_replica_id h ∷ zero_current_term h ∷ []', 'zero_current_term h ∷ zero_voted_for_replica_id h ∷ []'),
+    ('Chaining', 'validate_hard_state', 'zero_voted_for_replica_id h ∷ zero_current_term h ∷ []', 'zero_voted_for_replica_id h ∷ []'),
+    ('Chaining', 'validate_hard_state', 'zero_voted_for_replica_id h ∷ zero_current_term h ∷ []', 'zero_current_term h ∷ []'),
     ('Chaining', 'polled', '(zero ∷ gaps) (a ∷ l) = a ∷ polled gaps l', '(zero ∷ gaps) (a ∷ l) = a ∷ polled gaps (a ∷ l)'),
     ('Chaining', 'polled', '(zero ∷ gaps) (a ∷ l) = a ∷ polled gaps l', '(zero ∷ gaps) (a ∷ l) = polled gaps l'),
     ('Chaining', 'polled', '(zero ∷ gaps) (a ∷ l) = a ∷ polled gaps l', '(zero ∷ gaps) (a ∷ l) = a ∷ []'),
@@ -108,7 +107,7 @@ def mutants():
             if owner in MACHINERY.get(name, []):
                 continue
             for new, what in changes(line, lines, k):
-                if owner in ('empty', 'freshState') and re.search(r' to (log|s) \.| to some t$', what):
+                if owner in ('empty', 'fresh_state') and re.search(r' to (log|s)\.| to some t$', what):
                     continue        # nothing of the kind is in scope there
                 if new != line:
                     yield name, k, new, f'{name}:{k + 1} {owner} {what}'
@@ -129,13 +128,13 @@ def changes(line, lines, k):
     yield from each(r'≠\?', '<?', 'test')
     yield from each(r'&&', '||', 'test')
     yield from each(r'\|\|', '&&', 'test')
-    yield from each(r'(?<![-\w])max\b', 'min', 'number')
+    yield from each(r'\bmax\b', 'min', 'number')
     yield from each(r'\bmin\b', 'max', 'number')
     yield from each(r'\bnot \(', '(', 'test')
-    yield from each(r'(?<![\w.′{⟨-])\d+(?![\w′])', lambda m: str(int(m.group(0)) + 1), 'number')
-    yield from each(r'(?<![\w.′{⟨-])[1-9]\d*(?![\w′])(?! when)', lambda m: str(int(m.group(0)) - 1), 'number')
-    yield from each(r'(?<=.)\bu64-max\b', '18446744073709551614', 'number')
-    yield from each(r'(?<=.)\bu64-max\b', '18446744073709551616', 'number')
+    yield from each(r"(?<![\w.'{⟨-])\d+(?![\w'])", lambda m: str(int(m.group(0)) + 1), 'number')
+    yield from each(r"(?<![\w.'{⟨-])[1-9]\d*(?![\w'])(?! when)", lambda m: str(int(m.group(0)) - 1), 'number')
+    yield from each(r'(?<=.)\bu64_max\b', '18446744073709551614', 'number')
+    yield from each(r'(?<=.)\bu64_max\b', '18446744073709551616', 'number')
     if re.search(r'= (true|false)$', line):
         yield from each(r'\btrue$', 'false', 'value')
         yield from each(r'\bfalse$', 'true', 'value')
@@ -158,13 +157,13 @@ def changes(line, lines, k):
             items = parts.split(' ∷ ')
             for n in range(len(items)):
                 yield head + ' = ' + ' ∷ '.join(items[:n] + items[n + 1:] + ['[]']), f'element {n + 1} out'
-                if n + 1 < len(items) and 'Clauses' not in head:      # a conjunction has no order
+                if n + 1 < len(items) and 'clauses' not in head:      # a conjunction has no order
                     yield head + ' = ' + ' ∷ '.join(items[:n] + [items[n + 1], items[n]] + items[n + 2:] + ['[]']), f'elements {n + 1} and {n + 2} swapped'
     # an element in a line of its own: left out, or swapped with the next (the next line keeps its own change)
-    m = re.match(r'(\s+∷ )(?!\w*Rows )(\w.*)$', line)
+    m = re.match(r'(\s+∷ )(?!\w*_rows )(\w.*)$', line)
     if m and k + 1 < len(lines):
         yield '\0drop', f'{m.group(2).split()[0]} out'
-        n = re.match(r'(\s+∷ )(?!\w*Rows )(\w.*)$', lines[k + 1])
+        n = re.match(r'(\s+∷ )(?!\w*_rows )(\w.*)$', lines[k + 1])
         if n:
             yield '\0swap', f'{m.group(2).split()[0]} swapped with the next'
     m = re.match(r'(\s+)(\w[^∷=]*)$', line)
@@ -209,7 +208,7 @@ def room():
             text = re.sub(r'(use ' + re.escape(module) + r'\.\{)([^}]*)\}', wider, text)
         open(path, 'w').write(text)
     os.rename(f'{where}/crates/definition/specs/Cases', f'{where}/kept')
-    open(f'{where}/kept/Stores.antt', 'w').write(open(stores).read().replace('Rattle·definition.specs.', 'Rattle·definition·specs.specs.'))
+    open(f'{where}/kept/Stores.antt', 'w').write(open(stores).read())
     return where
 
 
@@ -222,27 +221,39 @@ def stage(where, names):
     open(folder + '.antt', 'w').write(''.join(f'pub mod {n}\n' for n in ['Samples'] + names))
 
 
-def check(where):
-    run = subprocess.run(['rt', 'dev', 'definition'], cwd=where, capture_output=True, text=True, timeout=600)
-    return re.findall(r'error: `([^`]+)`(.*)', run.stdout + run.stderr), run.returncode
+def check(where, named):
+    for _ in range(2):          # once more if it did not come to an end
+        run = subprocess.run(['rt', 'check'], cwd=f'{where}/crates/definition', capture_output=True, text=True, timeout=600)
+        said = run.stdout + run.stderr
+        verdict = re.search(r'^logic=(\S+)', said, re.M)
+        if verdict:
+            break
+    killers, others = [], []
+    for place, what, computed in re.findall(r'^(?:\./)?([^:\n]+:\d+:\d+: )?error\b[^:\n]*: (.*)\n(?=(.*))', said + '\n', re.M):
+        test = re.match(r'`(\w+)`: expected type `T \(', what)
+        if test and test.group(1) in named and '`⊥` (expected)' in computed:
+            killers.append(test.group(1))
+        elif 'was not admitted' not in what:        # an error that only passes on another's
+            others.append(place + what[:90])
+    if not (killers or others) and not (verdict and verdict.group(1) == 'proved' and run.returncode == 0):
+        others.append('the check did not end: ' + said[-90:])
+    return killers, others
 
 
 def tests():
     found = set()
     for f in [f'{crate}/specs/Cases/{f}' for f in os.listdir(f'{crate}/specs/Cases')] + [stores]:
-        found |= set(re.findall(r'^(?:pub )?([\w-]+) : T \(', open(f).read(), re.M))
+        found |= set(re.findall(r'^(?:pub )?(\w+) : T \(', open(f).read(), re.M))
     return found
 
 
 def judge(where, named):
     for names in STAGES:
         stage(where, names)
-        errors, code = check(where)
-        killers = [n for n, rest in errors if n in named]
-        others = [n + rest[:90] for n, rest in errors if n not in named and 'was not admitted' not in rest and 'cannot be unfolded' not in rest]
-        if killers or others or code:
+        killers, others = check(where, named)
+        if killers or others:
             break
-    return killers, others, code
+    return killers, others
 
 
 def main():
@@ -257,8 +268,8 @@ def main():
     equal = [l.split(' -- ')[0].strip() for l in open(equal_path) if l.strip() and not l.startswith('#')] if os.path.exists(equal_path) else []
     rooms = Queue()
     for _ in range(jobs):
-        w = room(); k, o, c = judge(w, named)
-        if k or o or c:
+        w = room(); k, o = judge(w, named)
+        if k or o:
             sys.exit(f'sweep: the definition itself fails: {k} {o}')
         rooms.put(w)
 
@@ -269,15 +280,15 @@ def main():
         before = open(path).read()
         try:
             open(path, 'w').write(apply(before.split('\n'), k, new))
-            killers, others, code = judge(where, named)
-            return label, killers, others, code
+            killers, others = judge(where, named)
+            return label, killers, others
         finally:
             open(path, 'w').write(before)
             rooms.put(where)
 
     by, alive, broken, known, done = {}, [], [], 0, 0
     with ThreadPoolExecutor(jobs) as pool:
-        for label, killers, others, code in pool.map(one, todo):
+        for label, killers, others in pool.map(one, todo):
             done += 1
             if done % 50 == 0:
                 print('tried', done, 'of', len(todo), file=sys.stderr, flush=True)
