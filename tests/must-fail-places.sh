@@ -1,11 +1,11 @@
 #!/usr/bin/env bash
 # must-fail-places.sh [CRATE...]: a refused edit shows something only if it was refused at the place that it is about. Each fault of a
 # crates/NAME/must-fail/*.edit says that place, '# expect: FILE DECLARATION'; an edit may have several faults, each in a file: part of
-# its own. rt must-fail prints one error of an edit, so each edit is checked here once more, in a copy of the crates, and all its errors are
+# its own. rt must-fail prints one error of an edit, so each edit is checked here once more, in a copy of its crate, and all its errors are
 # read: there must be one of that declaration's own (not one that only passes on another's) in which a fact fails. That the proof names a
 # place which the edited program no longer has shows nothing. Nor may a definition be refused, or the edited text not be read: an edit
 # that makes no sense shows nothing either. Counted apart, as weaker: faults whose only errors say that a rewrite no longer applies (what
-# the program tests or does is not what the goal speaks of). With LOGS=FOLDER the logs stay there. Run after rt ci or rt all check.
+# the program tests or does is not what the goal speaks of). With LOGS=FOLDER the logs stay there. Run after rt ci.
 set -euo pipefail
 cd "$(dirname "${BASH_SOURCE[0]}")/.."
 
@@ -14,14 +14,33 @@ say() { echo "must-fail-places: $*"; wrong=$((wrong + 1)); }
 
 room=$(mktemp -d)
 trap 'rm -rf "$room"' EXIT
-mkdir "$room/crates"
-tar -c --exclude=out --exclude=must-fail crates crates.txt $(ls HANDLES 2>/dev/null || true) | tar -x -C "$room"
+top=$PWD kit=$(dirname "$(rt doc)")
+declare -A uses
+while IFS=: read -r name below; do
+    uses[${name%% *}]=$below
+done < <(grep -E '^[a-z]' crates.txt)
 
-# A check of a crate of the copy, once more if it did not come to an end.
-check() { # CRATE LOG
+# The words of a check of a crate over the libraries that `rt ci` left below crates/.
+words_of() { # CRATE
+    local dep
+    for dep in ${uses[$1]} std; do
+        if [ -n "${uses[$dep]+own}" ]; then
+            echo "--extern=$dep=$top/crates/$dep/out/rlib/$dep.rlib"
+        else
+            echo "--extern=$dep=$kit/rlibs/$dep.rlib"
+        fi
+    done
+    for dep in "${!uses[@]}"; do
+        echo "-Ldependency=$top/crates/$dep/out/rlib"
+    done
+    echo "-Ldependency=$kit/rlibs" "--antt-project=$kit/rattle/logic/antt-project.json" "--logic-built=$kit/logic_built" --crate-name "$1"
+}
+
+# Checks a copy of a crate, over what a check without an edit kept; once more if it did not come to an end.
+check() { # COPY KEPT LOG WORDS..
     for _ in 1 2; do
-        (cd "$room/crates/$1" && rt check) >"$2" 2>&1 || true
-        ! grep -q '^logic=' "$2" || return 0
+        (cd "$1" && "$kit/bin/rattle" check "${@:4}" --incremental "$2" "src/$([ -f src/main.rt ] && echo main || echo lib).rt") >"$3" 2>&1 || true
+        ! grep -q '^logic=' "$3" || return 0
     done
 }
 
@@ -84,27 +103,46 @@ judge() { # EDIT LOG
     [ -z "$unread" ] || say "$1: the edited text cannot be read: '$(head -n 1 <<<"$unread")'"
 }
 
+# One edit, or none, in a copy of its own.
+try() { # CRATE [EDIT]
+    local label=${2:-} copy log
+    label=$(basename "${label:-seed.edit}" .edit)
+    copy=$room/$1/$label log=$logs/$1/$label.log
+    mkdir -p "$copy" "$logs/$1"
+    tar -c -C "crates/$1" --exclude=out --exclude=must-fail . | tar -x -C "$copy"
+    if [ -n "${2:-}" ]; then
+        apply "$2" "$copy" 2>"$log" || { echo "does not apply: $(tail -n 1 "$log")" >"$log"; return; }
+        cp -r "$room/$1/kept" "$copy/kept"
+        check "$copy" "$copy/kept" "$log" $(words_of "$1")
+        rm -rf "$copy"
+    else
+        mkdir "$room/$1/kept"
+        check "$copy" "$room/$1/kept" "$log" $(words_of "$1")
+    fi
+}
+
+# As many at once as there are processors.
+at_once() { # CRATE [EDIT]
+    while [ "$(jobs -rp | wc -l)" -ge "$(nproc)" ]; do wait -n || true; done
+    try "$@" &
+}
+
 logs=${LOGS:-$room/logs}
-for crate in ${@:-$(sed -n 's/^\([a-z][a-z0-9_]*\)[^:]*:.*/\1/p' crates.txt)}; do
-    ls crates/"$crate"/must-fail/*.edit >/dev/null 2>&1 || continue
-    mkdir -p "$logs/$crate"
-    check "$crate" "$logs/$crate/.log"
-    grep -q '^logic=proved' "$logs/$crate/.log" || { say "$crate is not proved as it stands: '$(grep -m 1 error "$logs/$crate/.log")'"; continue; }
-    mkdir "$room/kept"
-    tar -c -C "$room/crates/$crate" --exclude=out . | tar -x -C "$room/kept"
+crates=()
+for crate in ${@:-${!uses[@]}}; do
+    ! ls crates/"$crate"/must-fail/*.edit >/dev/null 2>&1 || crates+=("$crate")
+done
+for crate in "${crates[@]}"; do at_once "$crate"; done
+wait
+for crate in "${crates[@]}"; do
+    for edit in crates/"$crate"/must-fail/*.edit; do at_once "$crate" "$edit"; done
+done
+wait
+for crate in "${crates[@]}"; do
+    grep -q '^logic=proved' "$logs/$crate/seed.log" || { say "$crate is not proved as it stands: '$(grep -m 1 error "$logs/$crate/seed.log")'"; continue; }
     for edit in crates/"$crate"/must-fail/*.edit; do
-        log=$logs/$crate/$(basename "$edit" .edit).log
-        if apply "$edit" "$room/crates/$crate" 2>"$log"; then
-            check "$crate" "$log"
-            judge "$edit" "$log"
-        else
-            say "$edit does not apply: $(tail -n 1 "$log")"
-        fi
-        for part in src specs proofs; do
-            [ ! -d "$room/kept/$part" ] || cp -r "$room/kept/$part" "$room/crates/$crate/"
-        done
+        judge "$edit" "$logs/$crate/$(basename "$edit" .edit).log"
     done
-    rm -rf "$room/kept"
 done
 [ "$edits" -gt 0 ] || say "no edit was found"
 [ "$wrong" -eq 0 ] || exit 1
