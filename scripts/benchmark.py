@@ -3,7 +3,7 @@
 
     scripts/benchmark.py [--oracle FOLDER] [--runs N] [--built]
 
-FOLDER is the oracle's (default ../shared/oracle); it is built without overflow checks, as a user would, and ours by rt check (--built:
+FOLDER is the oracle's (default ../shared/oracle); it is built without overflow checks, as a user would, and ours by rt ci (--built:
 both are there already, the oracle's programs in FOLDER itself). Medians of N runs (default 25; whole processes 5 N). By the clock: run it
 on a machine that does nothing else. The journal is the one that crates/bench makes: six replicas, 4,096 records. The batch is 32
 entries of 32 bytes and a hard state, on a replica that holds 32.
@@ -96,7 +96,7 @@ def processes(oracle, short, long, runs):
 
 def built(oracle, folder):
     """Builds both; answers where the original's programs are."""
-    subprocess.run(['rt', 'check', 'recover', 'bench', 'bench_batch'], stdout=subprocess.DEVNULL, check=True)
+    subprocess.run(['rt', 'ci'], stdout=subprocess.DEVNULL, check=True)
     subprocess.run(['cargo', 'build', '--profile', 'fast', '--offline', '--quiet', '--target-dir', folder], cwd=oracle, check=True)
     return f'{folder}/fast'
 

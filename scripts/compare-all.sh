@@ -1,6 +1,6 @@
 #!/usr/bin/env bash
 # compare-all.sh [N [SEED...]]: runs recover, steps, batch and checks beside the Rust original on N generated inputs of each kind from each
-# seed (5,000 from 1, 2 and 3 if not given), by the oracle's compare.sh, and prints its `same X of X` for each. Run after rt check.
+# seed (5,000 from 1, 2 and 3 if not given), by the oracle's compare.sh, and prints its `same X of X` for each. Run after rt ci.
 #   ORACLE       the oracle's folder (default: ../shared/oracle)
 #   ORACLE_WORK  a folder to build and write in (default: a new one)
 #   PROGRAMS     which programs (default: all four)
