@@ -221,6 +221,9 @@ def stage(where, names):
     open(folder + '.antt', 'w').write(''.join(f'pub mod {n}\n' for n in ['Samples'] + names))
 
 
+NO_END = 'the check did not end: '
+
+
 def check(where, named):
     for _ in range(2):          # once more if it did not come to an end
         run = subprocess.run(['rt', 'check'], cwd=f'{where}/crates/definition', capture_output=True, text=True, timeout=600)
@@ -229,14 +232,14 @@ def check(where, named):
         if verdict:
             break
     killers, others = [], []
-    for place, what, computed in re.findall(r'^(?:\./)?([^:\n]+:\d+:\d+: )?error\b[^:\n]*: (.*)\n(?=(.*))', said + '\n', re.M):
-        test = re.match(r'`(\w+)`: expected type `T \(', what)
-        if test and test.group(1) in named and '`⊥` (expected)' in computed:
-            killers.append(test.group(1))
-        elif 'was not admitted' not in what:        # an error that only passes on another's
-            others.append(place + what[:90])
+    for place, what in re.findall(r'^(?:\./)?([^:\n]+:\d+:\d+: )?error\b[^:\n]*: (.*(?:\n  .*)*)', said, re.M):
+        name = re.match(r'`(\w+)`: ', what)
+        if name and name.group(1) in named and 'the two types are `⊥` (expected) and' in what:
+            killers.append(name.group(1))
+        elif not re.search('which was (not admitted|rejected), (was|were) not checked', what):     # that only passes on another's error
+            others.append(place + what[:90].split('\n')[0])
     if not (killers or others) and not (verdict and verdict.group(1) == 'proved' and run.returncode == 0):
-        others.append('the check did not end: ' + said[-90:])
+        others.append(NO_END + said[-90:])
     return killers, others
 
 
@@ -309,7 +312,7 @@ def main():
         print(f'  {n:4} first killed by {test}')
     while not rooms.empty():
         shutil.rmtree(rooms.get())
-    return 1 if alive else 0
+    return 1 if alive or any(why.startswith(NO_END) for label, why in broken) else 0
 
 
 sys.exit(main())
