@@ -4,10 +4,9 @@ use Prim.Native.Nat.{ℕ}
 use mathlib.Core.Path.{◌≡◌, refl, ap, ap₂, ◌∙◌}
 use mathlib.Core.Bool.{Bool, true, false}
 use mathlib.Core.List.{List, [], ◌∷◌}
-use mathlib.Core.Option.{Option, none, some}
 use native.Mathlib.Omega.{arith}
 use borrow.Author.Tests.{le-ltb}
-use Rattle.std.specs.Prelude.{if◌then◌else◌}
+use Rattle.std.specs.Prelude.{if◌then◌else◌, Option, None, Some}
 use Rattle.definition.specs.Table.{◌=?◌, ◌<?◌}
 use Rattle.definition.specs.Records.{HardState}
 use Rattle.definition.specs.Log.{Log, finished, maximum_observed_term, normalized_to, normalized_hard_state, with_hard, normalize_hard_state_term}
@@ -16,15 +15,15 @@ use Rattle.definition.specs.Chaining.{FinishingTwice}
 use Rattle.definition.proofs.Store.{laid, finish_unsound, finish_whole, finish_sound}
 
 -- Once finished, no hard state is below the largest term.
-normalized_again : (m c : ℕ) (o : Option HardState) → normalized_to m c (some (normalized_to m c o)) ≡ normalized_to m c o
+normalized_again : (m c : ℕ) (o : Option HardState) → normalized_to m c (Some (normalized_to m c o)) ≡ normalized_to m c o
 unfolding normalized_to
-normalized_again m c none = rw (le-ltb m m (omega arith))
-normalized_again m c (some o) = go (o.current_term <? m) refl
+normalized_again m c None = rw (le-ltb m m (omega arith))
+normalized_again m c (Some o) = go (o.current_term <? m) refl
   where
     raised : HardState
-    raised = record { current_term = m; voted_for = none; commit = o.commit }
+    raised = record { current_term = m; voted_for = None; commit = o.commit }
 
-    go : (b : Bool) → (o.current_term <? m) ≡ b → normalized_to m c (some (if b then raised else o)) ≡ (if◌then◌else◌ {A = HardState} b raised o)
+    go : (b : Bool) → (o.current_term <? m) ≡ b → normalized_to m c (Some (if b then raised else o)) ≡ (if◌then◌else◌ {A = HardState} b raised o)
     go true e = rw (le-ltb m m (omega arith))
     go false e = rw e
 
@@ -34,14 +33,14 @@ module _ {T : Type 0} where
   normalize_twice log = ap (λ (h : Option HardState). with_hard h log) (go (maximum_observed_term log =? 0))
     where
       once : Option HardState
-      once = some (normalized_to (maximum_observed_term log) log.committed_index log.hard_state)
+      once = Some (normalized_to (maximum_observed_term log) log.committed_index log.hard_state)
 
       go : (b : Bool)
           → (if b then (if b then log.hard_state else once)
-          else some (normalized_to (maximum_observed_term log) log.committed_index (if b then log.hard_state else once)))
+          else Some (normalized_to (maximum_observed_term log) log.committed_index (if b then log.hard_state else once)))
           ≡ (if b then log.hard_state else once)
       go true = refl
-      go false = ap {B = Option HardState} some (normalized_again (maximum_observed_term log) log.committed_index log.hard_state)
+      go false = ap {B = Option HardState} Some (normalized_again (maximum_observed_term log) log.committed_index log.hard_state)
 
 normalized_twice : (l : List (Held (Log ℕ))) → normalized (normalized l) ≡ normalized l
 unfolding normalized

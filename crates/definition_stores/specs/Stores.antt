@@ -1,8 +1,7 @@
 -- The store: the bytes that records leave, stores that are not sound, and whole calls over a state with its store.
 -- Assumes nothing.
-use Rattle.std.specs.Prelude.{ℕ, ◌+◌, Bool, true, false, ◌&&◌, not, List, [], ◌∷◌, ◌++◌, length, replicate, take, drop, T, if◌then◌else◌}
-use Rattle.std.proofs.Math.Option.{none, some}
-use Rattle.definition.specs.Table.{◌=?◌, every, Result, ok, refusal, u64_max, same_bytes}
+use Rattle.std.specs.Prelude.{ℕ, ◌+◌, Bool, true, false, ◌&&◌, not, List, [], ◌∷◌, ◌++◌, length, replicate, take, drop, T, if◌then◌else◌, None, Some, Result, Ok, Err}
+use Rattle.definition.specs.Table.{◌=?◌, every, u64_max, same_bytes}
 use Rattle.definition.specs.Records.{Payload, normal, configuration, addLearner, inside, entry, pointer, Record, form_rows}
 use Rattle.definition.specs.Log.{Answer, appended, kept, finished, refused, empty, base, count, snapshot_boundary, last_index, last, place, at, is_held, predecessor_term, same_term, same_content, hard_state_successor_rows, snapshot_successor_rows, replay_rows, install_rows, rows, answer_to, placed, with_entry, with_hard_state, beyond, raised_by, with_pointer, accept, largest_term, maximum_observed_term, normalized_to, normalized_hard_state, with_hard, normalize_hard_state_term}
 use Rattle.definition.specs.Recovery.{held, State, Recovery, fresh_state, fresh, lookup, put, keep, ascending, judged, settled, admitted, visit, log_clauses, kept_lsns, held_clauses, state_clauses, sound_state, pad_to, block, layout, sound_store, sound, scan, routed, guarded, observe_state, normalized, normalized_state, finish_state, stored, with_store, observe, finish, answers, observe_until_refused, ask, place_of, replica_of}
@@ -47,8 +46,8 @@ command bytes = normal (inside bytes)
 two : State
 two =
     state_of
-    (held (id 1 1) (plain_log (k_ep 1 1 (command (1 ∷ 2 ∷ [])) ∷ k_ep 1 2 (configuration addLearner 1 1) ∷ k_ep 1 3 (command (3 ∷ [])) ∷ []) (some 3))
-    ∷ held (id 1 3) (plain_log (k_ep 1 4 (command (4 ∷ [])) ∷ []) (some 4)) ∷ []) 4 (some 4)
+    (held (id 1 1) (plain_log (k_ep 1 1 (command (1 ∷ 2 ∷ [])) ∷ k_ep 1 2 (configuration addLearner 1 1) ∷ k_ep 1 3 (command (3 ∷ [])) ∷ []) (Some 3))
+    ∷ held (id 1 3) (plain_log (k_ep 1 4 (command (4 ∷ [])) ∷ []) (Some 4)) ∷ []) 4 (Some 4)
 
 store_of_two : List ℕ
 store_of_two = writes ((0, 1 ∷ 2 ∷ []) ∷ (128, 3 ∷ []) ∷ (4096, 4 ∷ []) ∷ [])
@@ -89,13 +88,13 @@ short = record { state = fresh_state; store = [] }
 seven : List Record
 seven = E 1 1 1 ∷ F 2 ∷ E 3 3 1 ∷ E 4 2 1 ∷ []
 
-is_refusal : {A : Type 0} → ℕ → Result A → Bool
-is_refusal n (ok a) = false
-is_refusal n (refusal m) = m =? n
+is_refusal : {A : Type 0} → ℕ → Result A ℕ → Bool
+is_refusal n (Ok a) = false
+is_refusal n (Err m) = m =? n
 
-reads : {A : Type 0} → (A → Bool) → Result A → Bool
-reads p (ok a) = p a
-reads p (refusal m) = false
+reads : {A : Type 0} → (A → Bool) → Result A ℕ → Bool
+reads p (Ok a) = p a
+reads p (Err m) = false
 
 whole_calls : List Bool
 whole_calls =
@@ -103,20 +102,20 @@ whole_calls =
     let d = observe_until_refused fresh (E 1 1 1 ∷ F 2 ∷ []) in
     let f = finish d.left in
     (c.taken =? 2)
-    ∷ same_option same_number c.ended (some 30)
-    ∷ same_state c.left.state (only (plain_log (k_e 1 1 ∷ []) (some 1)) 3 (some 3))
+    ∷ same_option same_number c.ended (Some 30)
+    ∷ same_state c.left.state (only (plain_log (k_e 1 1 ∷ []) (Some 1)) 3 (Some 3))
     ∷ same_bytes c.left.store (writes ((0, 65 ∷ []) ∷ []))
     ∷ (d.taken =? 2)
-    ∷ same_option same_number d.ended none
-    ∷ same_state d.left.state (only (plain_log (k_e 1 1 ∷ []) (some 1)) 2 (some 2))
-    ∷ same_state f.next.state (only (log_of (k_e 1 1 ∷ []) 0 0 0 (some 1) (some (hard_of 1 none 0)) none none none) 2 (some 2))
+    ∷ same_option same_number d.ended None
+    ∷ same_state d.left.state (only (plain_log (k_e 1 1 ∷ []) (Some 1)) 2 (Some 2))
+    ∷ same_state f.next.state (only (log_of (k_e 1 1 ∷ []) 0 0 0 (Some 1) (Some (hard_of 1 None 0)) None None None) 2 (Some 2))
     ∷ same_bytes f.next.store d.left.store
     ∷ same_answer f.answer finished
     ∷ same_answer (finish short).answer (refused 1)
     ∷ same_list same_answer (answers short (F 1 ∷ [])) (refused 1 ∷ [])
     ∷ sound fresh
     ∷ not (sound short)
-    ∷ not (sound (record { state = state_of [] u64_max none; store = replicate 32768 0 }))
+    ∷ not (sound (record { state = state_of [] u64_max None; store = replicate 32768 0 }))
     ∷ reads (λ n. n =? 1) (ask (λ s. length s.replicas) d.left)
     ∷ is_refusal 1 (ask (λ s. length s.replicas) short)
     ∷ []
@@ -127,16 +126,16 @@ each_whole_call = tt
 
 -- A batch over a state with its store: 1 before all others, an identity not held while 8 are, the command shown.
 eight : State
-eight = state_of (up_to (λ n. held (id 1 n) no_log) 8) 8 (some 8)
+eight = state_of (up_to (λ n. held (id 1 n) no_log) 8) 8 (Some 8)
 
 over : State → ℕ → Recovery
 over s n = record { state = s; store = replicate n 0 }
 
 nothing_tried : Batch
-nothing_tried = record { snapshot = none; entries = []; hard_state = none }
+nothing_tried = record { snapshot = None; entries = []; hard_state = None }
 
 one_tried : Batch
-one_tried = record { snapshot = none; entries = record { log_entry = log_entry 1 1 (byte 65); from = 70 } ∷ []; hard_state = some (hard_of 1 none 1) }
+one_tried = record { snapshot = None; entries = record { log_entry = log_entry 1 1 (byte 65); from = 70 } ∷ []; hard_state = Some (hard_of 1 None 1) }
 
 is_shown : Shown → ℕ → ℕ → Bool
 is_shown nothing from size = false
@@ -153,7 +152,7 @@ preparing =
     is_shown (previewed_at (over eight 32768) (id 2 1) one_tried 1) 70 1
     ∷ is_nothing (previewed_at (over eight 32767) (id 2 1) one_tried 1)
     ∷ is_refusal 1 (prepare (over eight 32767) (id 0 0) nothing_tried)
-    ∷ is_refusal 1 (prepare (over (state_of [] u64_max none) 32768) (id 0 0) nothing_tried)
+    ∷ is_refusal 1 (prepare (over (state_of [] u64_max None) 32768) (id 0 0) nothing_tried)
     ∷ []
 
 each_prepare : T (every (λ b. b) preparing)
