@@ -1,7 +1,6 @@
 -- What each decoded record of the code means. A command is a place and a length in the bytes lent beside it.
 -- Assumes nothing.
-use Rattle.std.specs.Prelude.{ℕ, List, [], ◌∷◌}
-use Rattle.std.proofs.Math.Option.{Option, none, some}
+use Rattle.std.specs.Prelude.{ℕ, List, [], ◌∷◌, Option, None, Some}
 use Rattle.definition.specs.Table.{Row}
 use Rattle.definition.specs.Records as D
 use Rattle.definition.specs.Log.{PointerRecord}
@@ -11,21 +10,14 @@ use Rattle.codec.specs.declared.ConfChangeKind.TheVariants as K
 use Rattle.codec.specs.declared.DurableRaftEntryPayload.{DurableRaftEntryPayload}
 use Rattle.codec.specs.declared.DurableRaftEntryPayload.TheVariants as Y
 use Rattle.codec.specs.declared.RaftLogEntryRecord.{RaftLogEntryRecord}
-use Rattle.codec.specs.declared.Vote.{Vote}
-use Rattle.codec.specs.declared.Vote.TheVariants as O
 use Rattle.codec.specs.declared.HardState.{HardState}
-use Rattle.codec.specs.declared.MaybeHardState.{MaybeHardState}
-use Rattle.codec.specs.declared.MaybeHardState.TheVariants as H
 use Rattle.codec.specs.declared.RaftHardStateRecord.{RaftHardStateRecord}
 use Rattle.codec.specs.declared.Checksum.{Checksum}
 use Rattle.codec.specs.declared.RaftSnapshotPointerRecord.{RaftSnapshotPointerRecord}
-use Rattle.codec.specs.declared.MaybePointer.{MaybePointer}
-use Rattle.codec.specs.declared.MaybePointer.TheVariants as P
 use Rattle.codec.specs.declared.RaftWalRecord.{RaftWalRecord}
 use Rattle.codec.specs.declared.RaftWalRecord.TheVariants as W
-use Rattle.codec.specs.declared.RecordBody.{RecordBody}
-use Rattle.codec.specs.declared.RecordBody.TheVariants as B
 use Rattle.codec.specs.declared.WalRecord.{WalRecord}
+use Rattle.ids.specs.declared.ReplicaId.{ReplicaId}
 
 abbrev pub change_of : ConfChangeKind → D.Change
 change_of K.AddLearner = D.addLearner
@@ -39,16 +31,16 @@ payload_of (Y.Configuration kind version replica) lent = D.configuration (change
 abbrev pub log_entry_of : RaftLogEntryRecord → List ℕ → D.LogEntry
 log_entry_of r lent = record { index = r.index; term = r.term; payload = payload_of r.payload lent }
 
-abbrev pub vote_of : Vote → Option ℕ
-vote_of O.None = none
-vote_of (O.Some r) = some r.0
+abbrev pub vote_of : Option ReplicaId → Option ℕ
+vote_of None = None
+vote_of (Some r) = Some r.0
 
 abbrev pub hard_state_of : HardState → D.HardState
 hard_state_of h = record { current_term = h.current_term; voted_for = vote_of h.voted_for; commit = h.commit }
 
-abbrev pub maybe_hard_state_of : MaybeHardState → Option D.HardState
-maybe_hard_state_of H.None = none
-maybe_hard_state_of (H.Some h) = some (hard_state_of h)
+abbrev pub maybe_hard_state_of : Option HardState → Option D.HardState
+maybe_hard_state_of None = None
+maybe_hard_state_of (Some h) = Some (hard_state_of h)
 
 abbrev pub checksum_of : Checksum → D.Checksum
 checksum_of s = record { a = s.a; b = s.b; c = s.c; d = s.d }
@@ -69,9 +61,9 @@ pointer_of p =
 abbrev pub pointer_record_of : RaftSnapshotPointerRecord → PointerRecord
 pointer_record_of p = record { identity = identity_of p.identity; snapshot = pointer_of p }
 
-abbrev pub maybe_pointer_of : MaybePointer → Option PointerRecord
-maybe_pointer_of P.None = none
-maybe_pointer_of (P.Some p) = some (pointer_record_of p)
+abbrev pub maybe_pointer_of : Option RaftSnapshotPointerRecord → Option PointerRecord
+maybe_pointer_of None = None
+maybe_pointer_of (Some p) = Some (pointer_record_of p)
 
 -- Each kind's record, without its identity.
 abbrev pub entry_kind_of : RaftLogEntryRecord → List ℕ → D.Kind
@@ -104,9 +96,9 @@ owner_of (W.Entry r) = identity_of r.identity
 owner_of (W.HardState r) = identity_of r.identity
 owner_of (W.SnapshotPointer p) = identity_of p.identity
 
-abbrev pub body_of : RecordBody → List ℕ → D.Body
-body_of B.Foreign lent = D.foreign
-body_of (B.Raft k) lent = D.raft (owner_of k) (kind_of k lent)
+abbrev pub body_of : Option RaftWalRecord → List ℕ → D.Body
+body_of None lent = D.foreign
+body_of (Some k) lent = D.raft (owner_of k) (kind_of k lent)
 
 -- The form checks of a body; one of no Raft kind has none.
 abbrev pub body_rows : D.Body → List Row

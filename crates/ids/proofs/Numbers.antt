@@ -6,9 +6,8 @@ use mathlib.Core.List.{List, [], ◌∷◌}
 use lib.ListN.{get_or}
 use Rattle.ids.specs.declared.Refusal.{Refusal}
 use Rattle.ids.specs.declared.Refusal.TheVariants as R
-use Rattle.ids.specs.declared.Checked.{Checked}
-use Rattle.ids.specs.declared.Checked.TheVariants as C
-use Rattle.ids.specs.Refusal.{number_of, checked_of}
+use Rattle.std.specs.Prelude.{Result, Ok, Err}
+use Rattle.ids.specs.Refusal.{number_of, checked_of, result_of}
 
 abbrev refusals : List Refusal
 refusals =
@@ -134,8 +133,14 @@ found R.BoundaryTermChanged = refl
 pub number_of_injective : (r s : Refusal) → number_of r ≡ number_of s → r ≡ s
 number_of_injective r s e = sym (found r) ∙ ap refusal_at e ∙ found s
 
-pub checked_of_injective : (a b : Checked) → checked_of a ≡ checked_of b → a ≡ b
-checked_of_injective C.Ok C.Ok e = refl
-checked_of_injective C.Ok (C.Refused s) e = cc e
-checked_of_injective (C.Refused r) C.Ok e = cc e
-checked_of_injective (C.Refused r) (C.Refused s) e = ap C.Refused (number_of_injective r s (cc e))
+pub checked_of_injective : (a b : Result (Unit {0}) Refusal) → checked_of a ≡ checked_of b → a ≡ b
+checked_of_injective (Ok _) (Ok _) e = refl
+checked_of_injective (Ok _) (Err s) e = cc e
+checked_of_injective (Err r) (Ok _) e = cc e
+checked_of_injective (Err r) (Err s) e = ap Err (number_of_injective r s (cc e))
+
+pub result_of_injective : {T A : Type 0} (f : T → A) → ((t u : T) → f t ≡ f u → t ≡ u) → (a b : Result T Refusal) → result_of f a ≡ result_of f b → a ≡ b
+result_of_injective f one (Ok t) (Ok u) e = ap Ok (one t u (cc e))
+result_of_injective f one (Ok t) (Err s) e = cc e
+result_of_injective f one (Err r) (Ok u) e = cc e
+result_of_injective f one (Err r) (Err s) e = ap Err (number_of_injective r s (cc e))

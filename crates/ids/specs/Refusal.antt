@@ -1,11 +1,8 @@
 -- Document 01's number of each refusal, and what a check's answer means: the number of the refusal, none where there is none.
 -- Assumes nothing.
-use Rattle.std.specs.Prelude.{ℕ}
-use Rattle.std.proofs.Math.Option.{Option, none, some}
+use Rattle.std.specs.Prelude.{ℕ, Result, Ok, Err, Option, None, Some}
 use Rattle.ids.specs.declared.Refusal.{Refusal}
 use Rattle.ids.specs.declared.Refusal.TheVariants as R
-use Rattle.ids.specs.declared.Checked.{Checked}
-use Rattle.ids.specs.declared.Checked.TheVariants as C
 
 abbrev pub number_of : Refusal → ℕ
 number_of R.Unsound = 1
@@ -65,6 +62,11 @@ number_of R.TruncationRegression = 54
 number_of R.AppliedRegression = 55
 number_of R.BoundaryTermChanged = 56
 
-abbrev pub checked_of : Checked → Option ℕ
-checked_of C.Ok = none
-checked_of (C.Refused r) = some (number_of r)
+abbrev pub checked_of : Result (Unit {0}) Refusal → Option ℕ
+checked_of (Ok _) = None
+checked_of (Err r) = Some (number_of r)
+
+-- The same of an answer that gives something: f says what.
+abbrev pub result_of : {T A : Type 0} → (T → A) → Result T Refusal → Result A ℕ
+result_of f (Ok t) = Ok (f t)
+result_of f (Err r) = Err (number_of r)

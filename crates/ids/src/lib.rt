@@ -7,7 +7,7 @@ ghost use Rattle.ids.specs.Identity.{identity_of};
 ghost use Rattle.ids.specs.Refusal.{number_of};
 
 // The place of a record in the journal.
-#[derive(Clone, Copy)]
+#[derive(Clone, Copy, Debug, PartialEq, Eq, PartialOrd, Ord, Hash)]
 pub struct Lsn(pub u64);
 
 impl Lsn {
@@ -15,15 +15,15 @@ impl Lsn {
 }
 
 // The number of a Raft group.
-#[derive(Clone, Copy)]
+#[derive(Clone, Copy, Debug, PartialEq, Eq, PartialOrd, Ord, Hash)]
 pub struct RaftGroupId(pub u64);
 
 // The number of a replica in its group.
-#[derive(Clone, Copy)]
+#[derive(Clone, Copy, Debug, PartialEq, Eq, PartialOrd, Ord, Hash)]
 pub struct ReplicaId(pub u64);
 
 // One replica of one group.
-#[derive(Clone, Copy)]
+#[derive(Clone, Copy, Debug, PartialEq, Eq, PartialOrd, Ord, Hash)]
 pub struct RaftReplicaIdentity {
     pub raft_group_id: RaftGroupId,
     pub replica_id: ReplicaId,
@@ -33,27 +33,18 @@ pub struct RaftReplicaIdentity {
 pub fn same_identity(a: RaftReplicaIdentity, b: RaftReplicaIdentity) -> bool
     ensures { result ≡ same (identity_of a) (identity_of b) }
 {
-    if a.raft_group_id.0 != b.raft_group_id.0 {
-        return false;
-    }
-    a.replica_id.0 == b.replica_id.0
+    a == b
 }
 
 // Whether `a` stands before `b`: by group, then replica.
 pub fn precedes(a: RaftReplicaIdentity, b: RaftReplicaIdentity) -> bool
     ensures { result ≡ isBefore (identity_of a) (identity_of b) }
 {
-    if a.raft_group_id.0 < b.raft_group_id.0 {
-        return true;
-    }
-    if a.raft_group_id.0 != b.raft_group_id.0 {
-        return false;
-    }
-    a.replica_id.0 < b.replica_id.0
+    a < b
 }
 
 // Why a call is refused, in document 01's order; `number` gives its number there.
-#[derive(Clone, Copy)]
+#[derive(Clone, Copy, Debug, PartialEq, Eq)]
 pub enum Refusal {
     // 1. The state is not sound, or the store's length is not 32,768 (added).
     Unsound,
@@ -233,11 +224,4 @@ impl Refusal {
             Refusal::BoundaryTermChanged => 56,
         }
     }
-}
-
-// The answer of a check.
-#[derive(Clone, Copy)]
-pub enum Checked {
-    Ok,
-    Refused(Refusal),
 }
