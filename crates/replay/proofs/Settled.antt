@@ -4,14 +4,12 @@ use mathlib.Core.Path.{◌≡◌, refl, sym, ap, ◌∙◌}
 use mathlib.Core.Bool.{Bool, true, false, true≢false}
 use mathlib.Core.Logic.{inl, inr}
 use mathlib.Core.List.{List, ◌∷◌}
-use mathlib.Core.Option
-use mathlib.Core.Option.{Option, none, some, map}
 use Prim.Native.Nat.{ℕ, ◌+◌, ◌-◌, ◌<◌, ◌≤◌}
 use native.Mathlib.Omega.{arith}
 use native.Mathlib.Nat.{sub-zero}
 use borrow.Author.Tests.{eqb-true, leb-true, leb-false, lt-ltb, not-false}
 use lib.ListN.{length, get_or, set, length-set}
-use Rattle.std.specs.Prelude.{if◌then◌else◌}
+use Rattle.std.specs.Prelude.{if◌then◌else◌, Option, None, Some, option_map, unwrap_or}
 use Rattle.definition.specs.Table.{◌=?◌, ◌≤?◌, Row, ◌when◌, first_of, u64_max}
 use Rattle.definition.specs.Records.{Identity, Kind, hard_state, pointer, unfit, form_rows}
 use Rattle.definition.specs.Log as D
@@ -28,12 +26,9 @@ use Rattle.codec.specs.declared.RaftWalRecord.{RaftWalRecord}
 use Rattle.codec.specs.declared.RaftWalRecord.TheVariants as W
 use Rattle.codec.specs.Records.{payload_of, hard_state_of, pointer_of, log_entry_of, entry_kind_of, kind_of, owner_of}
 use Rattle.view.specs.declared.Existing.{Existing}
-use Rattle.view.specs.declared.Existing.TheVariants as X
 use Rattle.view.specs.declared.Header.{Header}
-use Rattle.view.specs.declared.Place.{Place}
-use Rattle.view.specs.declared.Place.TheVariants as Q
 use Rattle.view.specs.declared.RecoveredRaftLogEntry.{RecoveredRaftLogEntry}
-use Rattle.view.specs.Decisions.{answered, Tells, held_from, new_rows, replay_rows_of, accepted_as, replayed, entry_answer, maybe_term_of, hard_state_rows_of, pointer_rows_of}
+use Rattle.view.specs.Decisions.{answered, Tells, held_from, new_rows, replay_rows_of, accepted_as, replayed, entry_answer, hard_state_rows_of, pointer_rows_of}
 use Rattle.view.specs.Kept.{kept_entry}
 use Rattle.view.specs.Meaning.{no_entry, base_of, id_of, view_of, Means}
 use Rattle.view.specs.Model.{with_hard_state, with_pointer, covered_by, placed_entries, dropped_entries, dropped_bytes, renewed_entry}
@@ -46,7 +41,7 @@ use Rattle.replay.specs.Plan.{index_of, look_of, existing_in, prior_in, held_ter
 use Rattle.replay.specs.Settled.{Looks, Settled}
 
 -- Where an index is held, that is the place looked at.
-pub look_held : (h : Header) (x q : ℕ) → h.len ≤ 64 → place_of h x ≡ Q.Held q → look_of h x ≡ q
+pub look_held : (h : Header) (x q : ℕ) → h.len ≤ 64 → place_of h x ≡ Some q → look_of h x ≡ q
 look_held h x q l e =
     let k : Held h x q = held_at_lem h x q e in
     let p : x - base_of h ≡ q = omega (arith, k) in
@@ -57,17 +52,17 @@ dropped_none : (es : List RecoveredRaftLogEntry) (n : ℕ) → n ≤ length es �
 dropped_none es n h = rw (sub-zero n) (splice_self es 0 n (omega arith))
 
 -- No row refuses what is answered otherwise, and a refusal is a row's.
-pub passed : (o : Option ℕ) (a b : D.Answer) → refusing b ≡ false → answered o a ≡ b → o ≡ none
-passed none a b z e = refl
-passed (some n) a b z e = absurd (true≢false (ap refusing e ∙ z))
+pub passed : (o : Option ℕ) (a b : D.Answer) → refusing b ≡ false → answered o a ≡ b → o ≡ None
+passed None a b z e = refl
+passed (Some n) a b z e = absurd (true≢false (ap refusing e ∙ z))
 
-pub refusal : (o : Option ℕ) (a : D.Answer) (n : ℕ) → refusing a ≡ false → answered o a ≡ D.refused n → o ≡ some n
-refusal none a n z e = absurd (true≢false (sym (ap refusing e) ∙ z))
-refusal (some m) a n z e = let q : m ≡ n = cc in ap some q
+pub refusal : (o : Option ℕ) (a : D.Answer) (n : ℕ) → refusing a ≡ false → answered o a ≡ D.refused n → o ≡ Some n
+refusal None a n z e = absurd (true≢false (sym (ap refusing e) ∙ z))
+refusal (Some m) a n z e = let q : m ≡ n = cc in ap Some q
 
 pub same_answer_lem : (o : Option ℕ) (a b : D.Answer) → refusing b ≡ false → answered o a ≡ b → a ≡ b
-same_answer_lem none a b z e = e
-same_answer_lem (some n) a b z e = absurd (true≢false (ap refusing e ∙ z))
+same_answer_lem None a b z e = e
+same_answer_lem (Some n) a b z e = absurd (true≢false (ap refusing e ∙ z))
 
 -- What an accepted entry is answered.
 abbrev pub is_appended : D.Answer → Bool
@@ -88,9 +83,9 @@ is_replayed D.finished = false
 is_replayed (D.replaced_suffix r) = true
 is_replayed (D.refused n) = true
 
-pub accepted_replayed : (h : Header) (x : Existing) (index term : ℕ) → (refusing (accepted_as h x index term) ≡ false) × (is_replayed (accepted_as h x index term) ≡ true)
-accepted_replayed h X.None index term = (refl, refl)
-accepted_replayed h (X.Some old same) index term = go (old =? term)
+pub accepted_replayed : (h : Header) (x : Option Existing) (index term : ℕ) → (refusing (accepted_as h x index term) ≡ false) × (is_replayed (accepted_as h x index term) ≡ true)
+accepted_replayed h None index term = (refl, refl)
+accepted_replayed h (Some x) index term = go (x.term =? term)
   where
     go : (b : Bool) → (refusing (if b then D.idempotentReplay else D.replaced_suffix (record { removed_entries = held_from h index })) ≡ false)
         × (is_replayed (if b then D.idempotentReplay else D.replaced_suffix (record { removed_entries = held_from h index })) ≡ true)
@@ -98,8 +93,8 @@ accepted_replayed h (X.Some old same) index term = go (old =? term)
     go false = (refl, refl)
 
 pub answered_replayed : (o : Option ℕ) (a : D.Answer) → is_replayed a ≡ true → is_replayed (answered o a) ≡ true
-answered_replayed none a e = e
-answered_replayed (some n) a e = refl
+answered_replayed None a e = e
+answered_replayed (Some n) a e = refl
 
 -- An entry.
 module _ (h : Header) (es : List RecoveredRaftLogEntry) (cs : List ℕ) (r : RaftLogEntryRecord) (lent : List ℕ) (l : Lsn) (e b : RecoveredRaftLogEntry)
@@ -107,7 +102,7 @@ module _ (h : Header) (es : List RecoveredRaftLogEntry) (cs : List ℕ) (r : Raf
   abbrev log : D.Log ℕ
   log = view_of h es cs
 
-  abbrev old : Existing
+  abbrev old : Option Existing
   old = existing_in (place_of h r.index) e cs r lent
 
   abbrev prior : ℕ
@@ -116,18 +111,18 @@ module _ (h : Header) (es : List RecoveredRaftLogEntry) (cs : List ℕ) (r : Raf
   tells : Tells old (D.at log r.index) (log_entry_of r lent)
   tells = go (place_of h r.index) refl
     where
-      go : (q : Place) → place_of h r.index ≡ q → Tells (existing_in q e cs r lent) (D.at log r.index) (log_entry_of r lent)
-      go Q.None p = tells_none h es cs (log_entry_of r lent) p
-      go (Q.Held q) p =
+      go : (q : Option ℕ) → place_of h r.index ≡ q → Tells (existing_in q e cs r lent) (D.at log r.index) (log_entry_of r lent)
+      go None p = tells_none h es cs (log_entry_of r lent) p
+      go (Some q) p =
           let own : e ≡ get_or es q no_entry = k.own ∙ ap (λ (x : ℕ). get_or es x no_entry) (look_held h r.index q k.fits.short p) in
           rw own (tells_held h es cs r lent q p)
 
   predecessor : D.predecessor_term log r.index ≡ prior
   predecessor = predecessor_is h es cs r.index ∙ go (place_of h (r.index - 1)) refl
     where
-      go : (q : Place) → place_of h (r.index - 1) ≡ q → Option.get_or (at_place q (λ (q : ℕ). (get_or es q no_entry).term)) h.snapshot_term ≡ prior_in q h.snapshot_term b.term
-      go Q.None p = refl
-      go (Q.Held q) p =
+      go : (q : Option ℕ) → place_of h (r.index - 1) ≡ q → unwrap_or (at_place q (λ (q : ℕ). (get_or es q no_entry).term)) h.snapshot_term ≡ prior_in q h.snapshot_term b.term
+      go None p = refl
+      go (Some q) p =
           sym (ap (λ (x : RecoveredRaftLogEntry). x.term) (k.before ∙ ap (λ (x : ℕ). get_or es x no_entry) (look_held h (r.index - 1) q k.fits.short p)))
 
   abbrev first : Row
@@ -158,7 +153,7 @@ module _ (h : Header) (es : List RecoveredRaftLogEntry) (cs : List ℕ) (r : Raf
   one_written x = dropped_none (set es place x) h.len (omega (arith, length-set es place x, k.places, k.fits.short))
 
   module _ (a : D.Answer) (z : refusing a ≡ false) (p : told ≡ a) where
-    no_row : first_of (D.rows i (entry_kind_of r lent) log) ≡ none
+    no_row : first_of (D.rows i (entry_kind_of r lent) log) ≡ None
     no_row = rows_are ∙ passed (first_of (first ∷ rest)) accepted a z p
 
     answer_is : a ≡ D.answer_to (entry_kind_of r lent) log
@@ -170,12 +165,12 @@ module _ (h : Header) (es : List RecoveredRaftLogEntry) (cs : List ℕ) (r : Raf
     replay_is = past_first first rest accepted a z p
 
   -- appended at the place after the last
-  new_only : told ≡ D.appended → old ≡ X.None
+  new_only : told ≡ D.appended → old ≡ None
   new_only p = go old (same_answer_lem (first_of (replay_rows_of h old prior r.index r.term)) accepted D.appended refl (replay_is D.appended refl p))
     where
-      go : (x : Existing) → accepted_as h x r.index r.term ≡ D.appended → x ≡ X.None
-      go X.None q = refl
-      go (X.Some t s) q = absurd (on (t =? r.term) q)
+      go : (x : Option Existing) → accepted_as h x r.index r.term ≡ D.appended → x ≡ None
+      go None q = refl
+      go (Some x) q = absurd (on (x.term =? r.term) q)
         where
           on : (c : Bool) → ◌≡◌ {A = D.Answer} (if c then D.idempotentReplay else D.replaced_suffix (record { removed_entries = held_from h r.index })) D.appended → ⊥
           on true w = true≢false (sym (ap is_appended w))
@@ -183,7 +178,7 @@ module _ (h : Header) (es : List RecoveredRaftLogEntry) (cs : List ℕ) (r : Raf
 
   appended_place : told ≡ D.appended → place ≡ h.len
   appended_place p =
-      let o : first_of (new_rows h prior r.index r.term) ≡ none =
+      let o : first_of (new_rows h prior r.index r.term) ≡ None =
       passed (first_of (new_rows h prior r.index r.term)) D.appended D.appended refl (rw (new_only p) at (replay_is D.appended refl p)) in
       let c : Clear (new_rows h prior r.index r.term) = clear (new_rows h prior r.index r.term) o in
       let next : r.index ≡ last_of h + 1 = eqb-true r.index (last_of h + 1) (not-false (r.index =? last_of h + 1) c.1.1.0) in
@@ -192,12 +187,12 @@ module _ (h : Header) (es : List RecoveredRaftLogEntry) (cs : List ℕ) (r : Raf
       rw (lt-ltb (r.index - base_of h) 64 (omega arith)) at
 
   -- At an index that is not held nothing but an append is answered.
-  place_held : (a : D.Answer) → refusing a ≡ false → is_appended a ≡ false → told ≡ a → place_of h r.index ≡ Q.Held place
+  place_held : (a : D.Answer) → refusing a ≡ false → is_appended a ≡ false → told ≡ a → place_of h r.index ≡ Some place
   place_held a z ne p = go (place_of h r.index) refl (replay_is a z p)
     where
-      go : (q : Place) → place_of h r.index ≡ q → replayed h (existing_in q e cs r lent) prior r.index r.term ≡ a → place_of h r.index ≡ Q.Held place
-      go (Q.Held q) w v = w ∙ ap Q.Held (sym (look_held h r.index q k.fits.short w))
-      go Q.None w v = absurd (true≢false (ap is_appended (same_answer_lem (first_of (replay_rows_of h X.None prior r.index r.term)) D.appended a z v) ∙ ne))
+      go : (q : Option ℕ) → place_of h r.index ≡ q → replayed h (existing_in q e cs r lent) prior r.index r.term ≡ a → place_of h r.index ≡ Some place
+      go (Some q) w v = w ∙ ap Some (sym (look_held h r.index q k.fits.short w))
+      go None w v = absurd (true≢false (ap is_appended (same_answer_lem (first_of (replay_rows_of h None prior r.index r.term)) D.appended a z v) ∙ ne))
 
   abbrev plan : D.Answer → Plan
   plan a = entry_plan a h e r l cs lent
@@ -257,7 +252,7 @@ module _ (h : Header) (es : List RecoveredRaftLogEntry) (cs : List ℕ) (r : Raf
 module _ (h : Header) (es : List RecoveredRaftLogEntry) (cs : List ℕ) (e : RecoveredRaftLogEntry) (q : ℕ) (own : e ≡ get_or es q no_entry) (few : h.len ≤ length es) (i : Identity) (b : Kind) (lsn : ℕ) (d : Plan)
     (answer : d.answer ≡ D.answer_to b (view_of h es cs)) (means : Means d.head (entries_after h es q d) d.bytes (D.accept b lsn (view_of h es cs))) (same : id_of d.head ≡ id_of h) where
   by_row : (o : Option ℕ) → first_of (D.rows i b (view_of h es cs)) ≡ o → Settled h es cs i b lsn (unless_row o h e cs d) (entries_after h es q (unless_row o h e cs d))
-  by_row (some n) p =
+  by_row (Some n) p =
       inl (record {
         number = n;
         row = p;
@@ -266,7 +261,7 @@ module _ (h : Header) (es : List RecoveredRaftLogEntry) (cs : List ℕ) (e : Rec
         entries = (let w : set es q e ≡ es = rw own (set_self es q no_entry) in rw w (dropped_none es h.len few));
         store = refl;
       })
-  by_row none p = inr (record { row = p; answer = answer; means = means; same = same })
+  by_row None p = inr (record { row = p; answer = answer; means = means; same = same })
 
 module _ (h : Header) (es : List RecoveredRaftLogEntry) (cs : List ℕ) (l : Lsn) (e b : RecoveredRaftLogEntry) (i : Identity) where
   hard_state_settled : (version : ℕ) (x : HardState) → Looks h es cs 0 e b
@@ -294,16 +289,16 @@ module _ (h : Header) (es : List RecoveredRaftLogEntry) (cs : List ℕ) (l : Lsn
       (first_of (pointer_rows_of (identity_of p.identity) h p (held_term_in (place_of h x) e.term)))
       (ap first_of (pointer_rows_lem h es cs k.fits p (held_term_in (place_of h x) e.term) (held_term x k) i) ∙ ap (λ (j : Identity). first_of (pointer_rows_of j h p (held_term_in (place_of h x) e.term))) ei)
     where
-      held_term : (x : ℕ) → Looks h es cs x e b → map (λ o. o.term) (D.at (view_of h es cs) x) ≡ maybe_term_of (held_term_in (place_of h x) e.term)
+      held_term : (x : ℕ) → Looks h es cs x e b → option_map (λ o. o.term) (D.at (view_of h es cs) x) ≡ (held_term_in (place_of h x) e.term)
       held_term x k = term_at_is h es cs x ∙ go (place_of h x) refl
         where
-          go : (q : Place) → place_of h x ≡ q → at_place q (λ (q : ℕ). (get_or es q no_entry).term) ≡ maybe_term_of (held_term_in q e.term)
-          go Q.None w = refl
-          go (Q.Held q) w = ap (λ (y : RecoveredRaftLogEntry). some y.term) (sym (k.own ∙ ap (λ (y : ℕ). get_or es y no_entry) (look_held h x q k.fits.short w)))
+          go : (q : Option ℕ) → place_of h x ≡ q → at_place q (λ (q : ℕ). (get_or es q no_entry).term) ≡ (held_term_in q e.term)
+          go None w = refl
+          go (Some q) w = ap (λ (y : RecoveredRaftLogEntry). Some y.term) (sym (k.own ∙ ap (λ (y : ℕ). get_or es y no_entry) (look_held h x q k.fits.short w)))
 
 -- A record of its replica, by kind.
 pub settle_means : (h : Header) (es : List RecoveredRaftLogEntry) (cs : List ℕ) (k : RaftWalRecord) (lent : List ℕ) (l : Lsn) (e b : RecoveredRaftLogEntry) → Looks h es cs (index_of k) e b
-    → first_of (form_rows (owner_of k) (kind_of k lent)) ≡ none → fits_kind (kind_of k lent) ≡ true
+    → first_of (form_rows (owner_of k) (kind_of k lent)) ≡ None → fits_kind (kind_of k lent) ≡ true
     → Settled h es cs (owner_of k) (kind_of k lent) l.0 (plan_of h e b k l cs lent) (entries_after h es (look_of h (index_of k)) (plan_of h e b k l cs lent))
 unfolding form_rows
 settle_means h es cs (W.Entry r) lent l e b k f m =

@@ -1,13 +1,13 @@
 -- The model of what a record does to its replica: the answer, and what stands in the replica's places then. It looks at the
 -- header, at the entry places of its index and of the index before, and at the replica's block of the store.
 -- Assumes nothing.
-use Rattle.std.specs.Prelude.{◌≡◌, false, List, ℕ, ◌+◌, ◌-◌, ◌≤◌, length, set, if◌then◌else◌}
-use Rattle.std.proofs.Math.Option.{Option, none, some}
+use Rattle.std.specs.Prelude.{◌≡◌, false, List, ℕ, ◌+◌, ◌-◌, ◌≤◌, length, set, if◌then◌else◌, Option, None, Some, Result, Ok, Err}
 use Rattle.definition.specs.Table.{◌<?◌, first_of}
 use Rattle.definition.specs.Records.{unfit}
 use Rattle.definition.specs.Log as D
 use Rattle.ids.specs.declared.Lsn.{Lsn}
 use Rattle.ids.specs.declared.RaftReplicaIdentity.{RaftReplicaIdentity}
+use Rattle.ids.specs.declared.Refusal.{Refusal}
 use Rattle.ids.specs.Identity.{identity_of}
 use Rattle.ids.specs.Refusal.{number_of}
 use Rattle.codec.specs.declared.HardState.{HardState}
@@ -17,12 +17,7 @@ use Rattle.codec.specs.declared.RaftWalRecord.{RaftWalRecord}
 use Rattle.codec.specs.declared.RaftWalRecord.TheVariants as W
 use Rattle.codec.specs.Records.{payload_of}
 use Rattle.view.specs.declared.Existing.{Existing}
-use Rattle.view.specs.declared.Existing.TheVariants as X
 use Rattle.view.specs.declared.Header.{Header}
-use Rattle.view.specs.declared.MaybeTerm.{MaybeTerm}
-use Rattle.view.specs.declared.MaybeTerm.TheVariants as T
-use Rattle.view.specs.declared.Place.{Place}
-use Rattle.view.specs.declared.Place.TheVariants as Q
 use Rattle.view.specs.declared.RecoveredRaftLogEntry.{RecoveredRaftLogEntry}
 use Rattle.view.specs.Decisions.{entry_answer, hard_state_rows_of, pointer_rows_of}
 use Rattle.view.specs.Kept.{kept_entry, cell_for, existing_of}
@@ -34,13 +29,13 @@ use Rattle.replay.specs.declared.Observation.TheVariants as O
 use Rattle.replay.specs.declared.Change.{Change}
 
 -- What an answer means.
-abbrev pub answer_of : Observation → D.Answer
-answer_of O.Counted = D.counted
-answer_of O.Appended = D.appended
-answer_of O.IdempotentReplay = D.idempotentReplay
-answer_of (O.ReplacedSuffix r) = D.replaced_suffix (record { removed_entries = r.removed_entries })
-answer_of O.Kept = D.kept
-answer_of (O.Refused why) = D.refused (number_of why)
+abbrev pub answer_of : Result Observation Refusal → D.Answer
+answer_of (Ok O.Counted) = D.counted
+answer_of (Ok O.Appended) = D.appended
+answer_of (Ok O.IdempotentReplay) = D.idempotentReplay
+answer_of (Ok (O.ReplacedSuffix r)) = D.replaced_suffix (record { removed_entries = r.removed_entries })
+answer_of (Ok O.Kept) = D.kept
+answer_of (Err why) = D.refused (number_of why)
 
 -- Whose record it is.
 abbrev pub identity_in : RaftWalRecord → RaftReplicaIdentity
@@ -59,18 +54,18 @@ abbrev pub look_of : Header → ℕ → ℕ
 look_of h x = if x - base_of h <? 64 then x - base_of h else 0
 
 -- What is held at a record's index, by the entry e at the place looked at.
-abbrev pub existing_in : Place → RecoveredRaftLogEntry → List ℕ → RaftLogEntryRecord → List ℕ → Existing
-existing_in Q.None e cs r lent = X.None
-existing_in (Q.Held q) e cs r lent = existing_of e (cell_at cs q) r lent
+abbrev pub existing_in : Option ℕ → RecoveredRaftLogEntry → List ℕ → RaftLogEntryRecord → List ℕ → Option Existing
+existing_in None e cs r lent = None
+existing_in (Some q) e cs r lent = Some (existing_of e (cell_at cs q) r lent)
 
 -- The term before an index: the boundary's, or that of the entry at the place looked at.
-abbrev pub prior_in : Place → ℕ → ℕ → ℕ
-prior_in Q.None boundary term = boundary
-prior_in (Q.Held q) boundary term = term
+abbrev pub prior_in : Option ℕ → ℕ → ℕ → ℕ
+prior_in None boundary term = boundary
+prior_in (Some q) boundary term = term
 
-abbrev pub held_term_in : Place → ℕ → MaybeTerm
-held_term_in Q.None term = T.None
-held_term_in (Q.Held q) term = T.Some term
+abbrev pub held_term_in : Option ℕ → ℕ → Option ℕ
+held_term_in None term = None
+held_term_in (Some q) term = Some term
 
 -- The answer; the header, the entry at the place looked at and the bytes of the block then; how many entries go from the front.
 pub record Plan : Type 0 where
@@ -83,6 +78,10 @@ pub record Plan : Type 0 where
 -- A change of the code, with the block that it leaves.
 abbrev pub planned : Change → List ℕ → Plan
 planned d cs = record { answer = answer_of d.answer; head = d.head; entry = d.entry; dropped = d.dropped; bytes = cs }
+
+-- Of a refused record, in the code's terms.
+abbrev pub refused : Refusal → Header → RecoveredRaftLogEntry → Change
+refused why h e = record { answer = Err why; head = h; entry = e; dropped = 0 }
 
 abbrev pub as_it_was : D.Answer → Header → RecoveredRaftLogEntry → List ℕ → Plan
 as_it_was a h e cs = record { answer = a; head = h; entry = e; dropped = 0; bytes = cs }
@@ -132,8 +131,8 @@ replay_plan h e b r l cs lent = entry_plan (decided h e b r cs lent) h e r l cs 
 
 -- A row refuses, or the plan is another.
 abbrev pub unless_row : Option ℕ → Header → RecoveredRaftLogEntry → List ℕ → Plan → Plan
-unless_row (some n) h e cs d = as_it_was (D.refused n) h e cs
-unless_row none h e cs d = d
+unless_row (Some n) h e cs d = as_it_was (D.refused n) h e cs
+unless_row None h e cs d = d
 
 -- A hard state (33 to 38).
 abbrev pub hard_state_plan : Header → RecoveredRaftLogEntry → HardState → Lsn → List ℕ → Plan
@@ -160,7 +159,7 @@ entries_after h es q d = dropped_entries (set es q d.entry) d.dropped h.len
 pub record Holds (h : Header) (e : RecoveredRaftLogEntry) (x : ℕ) (cs : List ℕ) : Type 0 where
   pub bytes : length cs ≡ 4096
   pub short : h.len ≤ 64
-  pub small : (q : ℕ) → place_of h x ≡ Q.Held q → size_of e.payload ≤ 64
+  pub small : (q : ℕ) → place_of h x ≡ Some q → size_of e.payload ≤ 64
 
 -- And the record's command lies in the lent bytes.
 pub record Replayable (h : Header) (e : RecoveredRaftLogEntry) (r : RaftLogEntryRecord) (cs : List ℕ) (lent : List ℕ) : Type 0 where

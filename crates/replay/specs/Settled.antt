@@ -1,7 +1,6 @@
 -- What a record of one replica is answered by the definition, and what its header, entries and bytes mean then.
 -- Assumes nothing.
-use Rattle.std.specs.Prelude.{◌≡◌, ◌⊎◌, List, ℕ, ◌-◌, length, get_or}
-use Rattle.std.proofs.Math.Option.{none, some}
+use Rattle.std.specs.Prelude.{◌≡◌, ◌⊎◌, List, ℕ, ◌-◌, length, get_or, None, Some}
 use Rattle.definition.specs.Table.{first_of}
 use Rattle.definition.specs.Records.{Identity, Kind}
 use Rattle.definition.specs.Log as D
@@ -21,7 +20,7 @@ pub record Looks (h : Header) (es : List RecoveredRaftLogEntry) (cs : List ℕ) 
 -- A row refuses, and nothing changes ..
 pub record Refuses (h : Header) (es : List RecoveredRaftLogEntry) (cs : List ℕ) (i : Identity) (k : Kind) (d : Plan) (es' : List RecoveredRaftLogEntry) : Type 0 where
   pub number : ℕ
-  pub row : first_of (D.rows i k (view_of h es cs)) ≡ some number
+  pub row : first_of (D.rows i k (view_of h es cs)) ≡ Some number
   pub answer : d.answer ≡ D.refused number
   pub head : d.head ≡ h
   pub entries : es' ≡ es
@@ -29,7 +28,7 @@ pub record Refuses (h : Header) (es : List RecoveredRaftLogEntry) (cs : List ℕ
 
 -- .. or none does, and the log is the definition's next.
 pub record Accepts (h : Header) (es : List RecoveredRaftLogEntry) (cs : List ℕ) (i : Identity) (k : Kind) (lsn : ℕ) (d : Plan) (es' : List RecoveredRaftLogEntry) : Type 0 where
-  pub row : first_of (D.rows i k (view_of h es cs)) ≡ none
+  pub row : first_of (D.rows i k (view_of h es cs)) ≡ None
   pub answer : d.answer ≡ D.answer_to k (view_of h es cs)
   pub means : Means d.head es' d.bytes (D.accept k lsn (view_of h es cs))
   pub same : id_of d.head ≡ id_of h

@@ -2,34 +2,31 @@
 // replica's block of the store.
 #![tactic(auto)]
 
-ghost use Rattle.std.specs.Prelude.{◌≡◌, ◌-◌, ◌≤◌, length};
+ghost use Rattle.std.specs.Prelude.{◌≡◌, ◌-◌, ◌<◌, ◌≤◌, length};
 ghost use Rattle.view.specs.Decisions.{outcome_of};
 ghost use Rattle.view.specs.Model.{renewed_entry};
 ghost use Rattle.view.specs.Readers.{place_of};
-ghost use Rattle.replay.specs.Plan.{identity_in, index_of, look_of, existing_in, prior_in, held_term_in, decided, len_after, planned, entry_plan, pointer_plan, Replayable};
+ghost use Rattle.replay.specs.Plan.{identity_in, index_of, look_of, refused, existing_in, prior_in, held_term_in, decided, len_after, planned, entry_plan, pointer_plan, Replayable};
 
 use codec::{RaftLogEntryRecord, RaftSnapshotPointerRecord, RaftWalRecord};
-use ids::{Checked, Lsn, RaftReplicaIdentity, Refusal};
-use view::{
-    Existing, Header, MaybeTerm, Place, RaftLogReplayOutcome, RecoveredRaftLogEntry, Removed,
-};
+use ids::{Lsn, RaftReplicaIdentity, Refusal};
+use view::{Existing, Header, RaftLogReplayOutcome, RecoveredRaftLogEntry, Removed};
 
-// What a record is answered.
-#[derive(Clone, Copy)]
+// What a record that is not refused is answered.
+#[derive(Clone, Copy, Debug, PartialEq, Eq)]
 pub enum Observation {
     Counted,
     Appended,
     IdempotentReplay,
     ReplacedSuffix(Removed),
     Kept,
-    Refused(Refusal),
 }
 
 // What stands in the replica's places then: the header, the entry at the place that was looked at, and how many entries go
 // from the front.
-#[derive(Clone, Copy)]
+#[derive(Clone, Copy, Debug, PartialEq, Eq)]
 pub struct Change {
-    pub answer: Observation,
+    pub answer: Result<Observation, Refusal>,
     pub head: Header,
     pub entry: RecoveredRaftLogEntry,
     pub dropped: usize,
@@ -40,18 +37,9 @@ pub fn owner(kind: RaftWalRecord) -> RaftReplicaIdentity
     ensures { result ≡ identity_in kind }
 {
     match kind {
-        RaftWalRecord::Entry(r) => {
-            let i = r.identity;
-            i
-        }
-        RaftWalRecord::HardState(r) => {
-            let i = r.identity;
-            i
-        }
-        RaftWalRecord::SnapshotPointer(p) => {
-            let i = p.identity;
-            i
-        }
+        RaftWalRecord::Entry(r) => r.identity,
+        RaftWalRecord::HardState(r) => r.identity,
+        RaftWalRecord::SnapshotPointer(p) => p.identity,
     }
 }
 
@@ -68,27 +56,19 @@ pub fn index_of(kind: RaftWalRecord) -> u64
 
 // The entry place of an index, one of 64; 0 where it has none.
 pub fn look(head: Header, index: u64) -> usize
-    ensures { result ≡ look_of head index }
+    ensures place { result ≡ look_of head index }
+    ensures below { result < 64 }
 {
-    let first = head.base();
-    if index < first {
-        return 0;
-    }
-    let place = (index - first) as usize;
-    if 64 <= place {
-        return 0;
-    }
-    place
+    let place = index.saturating_sub(head.base()) as usize;
+    if place < 64 { place } else { 0 }
 }
 
 // The same of the index before.
 pub fn look_before(head: Header, index: u64) -> usize
-    ensures { result ≡ look_of head (index - 1) }
+    ensures place { result ≡ look_of head (index - 1) }
+    ensures below { result < 64 }
 {
-    if index == 0 {
-        return look(head, 0);
-    }
-    look(head, index - 1)
+    look(head, index.saturating_sub(1))
 }
 
 // What is held at a record's index, where e stands at the place looked at.
@@ -98,45 +78,47 @@ pub fn existing(
     r: RaftLogEntryRecord,
     block: &[u8],
     lent: &[u8],
-) -> Existing
+) -> Option<Existing>
     requires { Replayable head e r block.now lent.now }
     ensures { result ≡ existing_in (place_of head r.index) e block.now r lent.now }
 {
-    let Place::Held(q) = head.place_of(r.index) else {
-        return Existing::None;
-    };
-    view::existing_entry(e, block, 64 * q, r, lent)
+    let q = head.place_of(r.index)?;
+    Some(view::existing_entry(e, block, 64 * q, r, lent))
 }
 
 // The term before an index: the entry's or, where none is held, the boundary's.
 pub fn prior_term(head: Header, before: RecoveredRaftLogEntry, index: u64) -> u64
     ensures { result ≡ prior_in (place_of head (index - 1)) head.snapshot_term before.term }
 {
-    let Place::Held(_) = head.predecessor_place(index) else {
-        return head.snapshot_term;
-    };
-    before.term
+    match head.predecessor_place(index) {
+        None => head.snapshot_term,
+        Some(_) => before.term,
+    }
 }
 
 // The term held at an index, where e stands at the place looked at.
-pub fn held_term(head: Header, e: RecoveredRaftLogEntry, index: u64) -> MaybeTerm
+pub fn held_term(head: Header, e: RecoveredRaftLogEntry, index: u64) -> Option<u64>
     ensures { result ≡ held_term_in (place_of head index) e.term }
 {
-    let Place::Held(_) = head.place_of(index) else {
-        return MaybeTerm::None;
-    };
-    MaybeTerm::Some(e.term)
+    head.place_of(index).map(|_| e.term)
 }
 
 // The same entry, supplied again.
 fn renewed(e: RecoveredRaftLogEntry, lsn: Lsn) -> RecoveredRaftLogEntry
     ensures { result ≡ renewed_entry e lsn }
 {
-    let payload = e.payload;
-    RecoveredRaftLogEntry {
-        term: e.term,
-        lsn: lsn,
-        payload: payload,
+    RecoveredRaftLogEntry { lsn, ..e }
+}
+
+// Nothing changes where a record is refused.
+fn refused(why: Refusal, head: Header, e: RecoveredRaftLogEntry) -> Change
+    ensures { result ≡ refused why head e }
+{
+    Change {
+        answer: Err(why),
+        head,
+        entry: e,
+        dropped: 0,
     }
 }
 
@@ -148,53 +130,39 @@ pub fn write_entry(
     lsn: Lsn,
     block: &mut [u8],
     lent: &[u8],
-    outcome: RaftLogReplayOutcome,
+    outcome: Result<RaftLogReplayOutcome, Refusal>,
 ) -> Change
     requires { Replayable head e r block.old lent.now }
     ensures { planned result block.new ≡ entry_plan (outcome_of outcome) head e r lsn block.old lent.now }
 {
     let q = look(head, r.index);
-    let payload = r.payload;
     match outcome {
-        RaftLogReplayOutcome::Appended => {
-            view::put_payload(block, 64 * q, payload, lent);
-            let next = head.with_entry(q + 1, lsn);
-            let kept = view::kept_entry(r, lsn);
+        Ok(RaftLogReplayOutcome::Appended) => {
+            view::put_payload(block, 64 * q, r.payload, lent);
             Change {
-                answer: Observation::Appended,
-                head: next,
-                entry: kept,
+                answer: Ok(Observation::Appended),
+                head: head.with_entry(q + 1, lsn),
+                entry: view::kept_entry(r, lsn),
                 dropped: 0,
             }
         }
-        RaftLogReplayOutcome::IdempotentReplay => {
-            let next = head.with_entry(head.len, lsn);
-            let kept = renewed(e, lsn);
-            Change {
-                answer: Observation::IdempotentReplay,
-                head: next,
-                entry: kept,
-                dropped: 0,
-            }
-        }
-        RaftLogReplayOutcome::ReplacedSuffix(removed) => {
-            view::put_payload(block, 64 * q, payload, lent);
-            store::keep_cells(block, 0, q + 1);
-            let next = head.with_entry(q + 1, lsn);
-            let kept = view::kept_entry(r, lsn);
-            Change {
-                answer: Observation::ReplacedSuffix(removed),
-                head: next,
-                entry: kept,
-                dropped: 0,
-            }
-        }
-        RaftLogReplayOutcome::Refused(why) => Change {
-            answer: Observation::Refused(why),
-            head: head,
-            entry: e,
+        Ok(RaftLogReplayOutcome::IdempotentReplay) => Change {
+            answer: Ok(Observation::IdempotentReplay),
+            head: head.with_entry(head.len, lsn),
+            entry: renewed(e, lsn),
             dropped: 0,
         },
+        Ok(RaftLogReplayOutcome::ReplacedSuffix(removed)) => {
+            view::put_payload(block, 64 * q, r.payload, lent);
+            store::keep_cells(block, 0, q + 1);
+            Change {
+                answer: Ok(Observation::ReplacedSuffix(removed)),
+                head: head.with_entry(q + 1, lsn),
+                entry: view::kept_entry(r, lsn),
+                dropped: 0,
+            }
+        }
+        Err(why) => refused(why, head, e),
     }
 }
 
@@ -206,7 +174,7 @@ pub fn decide(
     r: RaftLogEntryRecord,
     block: &[u8],
     lent: &[u8],
-) -> RaftLogReplayOutcome
+) -> Result<RaftLogReplayOutcome, Refusal>
     requires { Replayable head e r block.now lent.now }
     ensures { outcome_of result ≡ decided head e before r block.now lent.now }
 {
@@ -216,15 +184,14 @@ pub fn decide(
 }
 
 // How many entries are held after an entry that is decided.
-pub fn len_after(head: Header, index: u64, outcome: RaftLogReplayOutcome) -> usize
+pub fn len_after(head: Header, index: u64, outcome: Result<RaftLogReplayOutcome, Refusal>) -> usize
     ensures { result ≡ len_after (outcome_of outcome) head index }
 {
-    let q = look(head, index);
     match outcome {
-        RaftLogReplayOutcome::Appended => q + 1,
-        RaftLogReplayOutcome::IdempotentReplay => head.len,
-        RaftLogReplayOutcome::ReplacedSuffix(_) => q + 1,
-        RaftLogReplayOutcome::Refused(_) => head.len,
+        Ok(RaftLogReplayOutcome::Appended | RaftLogReplayOutcome::ReplacedSuffix(_)) => {
+            look(head, index) + 1
+        }
+        Ok(RaftLogReplayOutcome::IdempotentReplay) | Err(_) => head.len,
     }
 }
 
@@ -240,20 +207,14 @@ pub fn install_snapshot(
     ensures { planned result block.new ≡ pointer_plan head e pointer lsn block.old }
 {
     let held = held_term(head, e, pointer.last_included_index);
-    if let Checked::Refused(why) = view::decide_pointer(head, pointer, held) {
-        return Change {
-            answer: Observation::Refused(why),
-            head: head,
-            entry: e,
-            dropped: 0,
-        };
+    if let Err(why) = view::decide_pointer(head, pointer, held) {
+        return refused(why, head, e);
     }
     let k = head.covered_by(pointer.last_included_index);
     store::drop_cells(block, 0, k);
-    let next = head.with_pointer(pointer, lsn, k);
     Change {
-        answer: Observation::Kept,
-        head: next,
+        answer: Ok(Observation::Kept),
+        head: head.with_pointer(pointer, lsn, k),
         entry: e,
         dropped: k,
     }

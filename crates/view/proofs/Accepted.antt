@@ -3,12 +3,11 @@
 use mathlib.Core.Path.{◌≡◌, refl, ap, ◌∙◌}
 use mathlib.Core.Bool.{Bool, true, false, ◌&&◌, not, true≢false}
 use mathlib.Core.List.{List, ◌∷◌, ◌++◌}
-use mathlib.Core.Option.{Option, none, some}
 use Prim.Native.Nat.{ℕ, ◌+◌, ◌-◌, ◌*◌, ◌<◌, ◌≤◌}
 use native.Mathlib.Omega.{arith}
 use borrow.Author.Tests.{eqb-true, eq-eqb, leb-false, not-false}
 use lib.ListN.{length, get_or, length-append, length-set}
-use Rattle.std.specs.Prelude.{if◌then◌else◌}
+use Rattle.std.specs.Prelude.{if◌then◌else◌, Option, None, Some}
 use Rattle.definition.specs.Table.{◌=?◌, Row, ◌when◌, first_of, u64_max}
 use Rattle.definition.specs.Records.{LogEntry, same_payload, unfit}
 use Rattle.definition.specs.Log as D
@@ -23,8 +22,6 @@ use Rattle.codec.specs.declared.RaftLogEntryRecord.{RaftLogEntryRecord}
 use Rattle.codec.specs.declared.RaftSnapshotPointerRecord.{RaftSnapshotPointerRecord}
 use Rattle.codec.specs.Records.{payload_of, hard_state_of, pointer_of, log_entry_of}
 use Rattle.view.specs.declared.Existing.{Existing}
-use Rattle.view.specs.declared.Existing.TheVariants as X
-use Rattle.view.specs.declared.Place.TheVariants as Q
 use Rattle.view.specs.declared.RecoveredRaftLogEntry.{RecoveredRaftLogEntry}
 use Rattle.view.specs.declared.Header.{Header}
 use Rattle.view.specs.Meaning.{no_entry, cell_at, entry_at, view_of, base_of, Fits, Cell, record_at, Means}
@@ -50,12 +47,12 @@ refusing (D.refused n) = true
 
 -- An answer that is no refusal: no row refuses, and it is the accepted one.
 record Taken (o : Option ℕ) (a b : D.Answer) : Type 0 where
-  passed : o ≡ none
+  passed : o ≡ None
   same : a ≡ b
 
 taken : (o : Option ℕ) (a b : D.Answer) → refusing b ≡ false → answered o a ≡ b → Taken o a b
-taken none a b z e = record { passed = refl; same = e }
-taken (some n) a b z e = absurd (true≢false (ap refusing e ∙ z))
+taken None a b z e = record { passed = refl; same = e }
+taken (Some n) a b z e = absurd (true≢false (ap refusing e ∙ z))
 
 -- Nor does the first row: an entry that is taken after 24, or 25, is taken by the replay.
 pub past_first : (r : Row) (l : List Row) (a b : D.Answer) → refusing b ≡ false → answered (first_of (r ∷ l)) a ≡ b → answered (first_of l) a ≡ b
@@ -114,15 +111,15 @@ module _ (h : Header) (es : List RecoveredRaftLogEntry) (cs : List ℕ) (f : Fit
         bytes = length_splice cs (64 * q) (c ++ zeros (64 * m)) (omega (arith, w)) ∙ lc;
       }
 
-  not_held : D.at log r.index ≡ none → D.same_term log (record_at r.index e c) ≡ false
+  not_held : D.at log r.index ≡ None → D.same_term log (record_at r.index e c) ≡ false
   unfolding D.same_term
   not_held p = rw p
 
-  same_term_lem : (o : D.Entry ℕ) (b : Bool) (d : LogEntry) → D.at log d.index ≡ some o → (o.term =? d.term) ≡ b → D.same_term log d ≡ b
+  same_term_lem : (o : D.Entry ℕ) (b : Bool) (d : LogEntry) → D.at log d.index ≡ Some o → (o.term =? d.term) ≡ b → D.same_term log d ≡ b
   unfolding D.same_term
   same_term_lem o b d p q = rw p q
 
-  appended_means : (prior : ℕ) → D.at log r.index ≡ none → first_of (new_rows h prior r.index r.term) ≡ none
+  appended_means : (prior : ℕ) → D.at log r.index ≡ None → first_of (new_rows h prior r.index r.term) ≡ None
       → Means (with_entry h (h.len + 1) l) (placed_entries es h.len e) (appended_bytes cs h.len c) after
   appended_means prior p n =
       let k : Clear (new_rows h prior r.index r.term) = clear (new_rows h prior r.index r.term) n in
@@ -133,11 +130,11 @@ module _ (h : Header) (es : List RecoveredRaftLogEntry) (cs : List ℕ) (f : Fit
       (placed_means h.len 0 (omega arith) (omega arith) (omega arith) (omega arith) (not_held p) (place_is h es cs r.index ∙ pl))
 
   -- held at place q
-  module _ (q : ℕ) (at-q : place_of h r.index ≡ Q.Held q) where
+  module _ (q : ℕ) (at-q : place_of h r.index ≡ Some q) where
     there : Held h r.index q
     there = held_at_lem h r.index q at-q
 
-    held_there : D.at log r.index ≡ some (entry_at es cs q)
+    held_there : D.at log r.index ≡ Some (entry_at es cs q)
     held_there = at_is h es cs r.index ∙ rw at-q
 
     place_there : D.place log r.index ≡ q
@@ -173,49 +170,49 @@ module _ (h : Header) (es : List RecoveredRaftLogEntry) (cs : List ℕ) (f : Fit
         }
 
   -- By the answer of the replay, where what is told of the index is so.
-  module _ (old : Existing) (prior : ℕ) (tells : Tells old (D.at log r.index) (log_entry_of r lent)) where
+  module _ (old : Option Existing) (prior : ℕ) (tells : Tells old (D.at log r.index) (log_entry_of r lent)) where
     pub when_appended : replayed h old prior r.index r.term ≡ D.appended
         → Means (with_entry h (h.len + 1) l) (placed_entries es h.len e) (appended_bytes cs h.len c) after
     when_appended = go old (D.at log r.index) refl tells
       where
-        go : (x : Existing) (a : Option (D.Entry ℕ)) → D.at log r.index ≡ a → Tells x a (log_entry_of r lent) → replayed h x prior r.index r.term ≡ D.appended
+        go : (x : Option Existing) (a : Option (D.Entry ℕ)) → D.at log r.index ≡ a → Tells x a (log_entry_of r lent) → replayed h x prior r.index r.term ≡ D.appended
             → Means (with_entry h (h.len + 1) l) (placed_entries es h.len e) (appended_bytes cs h.len c) after
-        go X.None none p t w = appended_means prior p (taken (first_of (new_rows h prior r.index r.term)) D.appended D.appended refl w).passed
-        go X.None (some o) p t w = absurd t
-        go (X.Some k s) none p t w = absurd t
-        go (X.Some k s) (some o) p t w =
-            absurd (never_appended h k r.index r.term (taken (first_of (held_rows h k s prior r.index r.term)) (accepted_held h k r.index r.term) D.appended refl w).same)
+        go None None p t w = appended_means prior p (taken (first_of (new_rows h prior r.index r.term)) D.appended D.appended refl w).passed
+        go None (Some o) p t w = absurd t
+        go (Some x) None p t w = absurd t
+        go (Some x) (Some o) p t w =
+            absurd (never_appended h x.term r.index r.term (taken (first_of (held_rows h x.term x.same_payload prior r.index r.term)) (accepted_held h x.term r.index r.term) D.appended refl w).same)
 
     -- at place q
-    module _ (q : ℕ) (at-q : place_of h r.index ≡ Q.Held q) where
-      told : Tells old (some (entry_at es cs q)) (log_entry_of r lent)
+    module _ (q : ℕ) (at-q : place_of h r.index ≡ Some q) where
+      told : Tells old (Some (entry_at es cs q)) (log_entry_of r lent)
       told = rw (held_there q at-q) at tells
 
       pub when_replaced : (n : D.Removed) → replayed h old prior r.index r.term ≡ D.replaced_suffix n
           → Means (with_entry h (q + 1) l) (placed_entries es q e) (placed_bytes cs q c (63 - q)) after
       when_replaced n = go old told
         where
-          go : (x : Existing) → Tells x (some (entry_at es cs q)) (log_entry_of r lent) → replayed h x prior r.index r.term ≡ D.replaced_suffix n
+          go : (x : Option Existing) → Tells x (Some (entry_at es cs q)) (log_entry_of r lent) → replayed h x prior r.index r.term ≡ D.replaced_suffix n
               → Means (with_entry h (q + 1) l) (placed_entries es q e) (placed_bytes cs q c (63 - q)) after
-          go X.None t w = absurd t
-          go (X.Some k s) t w =
+          go None t w = absurd t
+          go (Some x) t w =
               replaced_means q at-q
-              (rw t.0 (replaced_term h k r.index r.term n (taken (first_of (held_rows h k s prior r.index r.term)) (accepted_held h k r.index r.term) (D.replaced_suffix n) refl w).same))
+              (rw t.0 (replaced_term h x.term r.index r.term n (taken (first_of (held_rows h x.term x.same_payload prior r.index r.term)) (accepted_held h x.term r.index r.term) (D.replaced_suffix n) refl w).same))
 
       pub when_renewed : replayed h old prior r.index r.term ≡ D.idempotentReplay
           → Means (with_entry h h.len l) (placed_entries es q (renewed_entry (get_or es q no_entry) l)) cs after
       when_renewed = go old told
         where
-          go : (x : Existing) → Tells x (some (entry_at es cs q)) (log_entry_of r lent) → replayed h x prior r.index r.term ≡ D.idempotentReplay
+          go : (x : Option Existing) → Tells x (Some (entry_at es cs q)) (log_entry_of r lent) → replayed h x prior r.index r.term ≡ D.idempotentReplay
               → Means (with_entry h h.len l) (placed_entries es q (renewed_entry (get_or es q no_entry) l)) cs after
-          go X.None t w = absurd t
-          go (X.Some k s) t w =
-              let y : Taken (first_of (held_rows h k s prior r.index r.term)) (accepted_held h k r.index r.term) D.idempotentReplay =
-              taken (first_of (held_rows h k s prior r.index r.term)) (accepted_held h k r.index r.term) D.idempotentReplay refl w in
-              let v : (k =? r.term) ≡ true = renewed_term h k r.index r.term y.same in
-              let z : (k =? r.term && not s) ≡ false = (clear (held_rows h k s prior r.index r.term) y.passed).0 in
-              let s' : s ≡ true = not-false s (rw v at z) in
-              renewed_means q at-q (rw t.0 v) (t.1 (eqb-true k r.term v) ∙ s')
+          go None t w = absurd t
+          go (Some x) t w =
+              let y : Taken (first_of (held_rows h x.term x.same_payload prior r.index r.term)) (accepted_held h x.term r.index r.term) D.idempotentReplay =
+              taken (first_of (held_rows h x.term x.same_payload prior r.index r.term)) (accepted_held h x.term r.index r.term) D.idempotentReplay refl w in
+              let v : (x.term =? r.term) ≡ true = renewed_term h x.term r.index r.term y.same in
+              let z : (x.term =? r.term && not x.same_payload) ≡ false = (clear (held_rows h x.term x.same_payload prior r.index r.term) y.passed).0 in
+              let s' : x.same_payload ≡ true = not-false x.same_payload (rw v at z) in
+              renewed_means q at-q (rw t.0 v) (t.1 (eqb-true x.term r.term v) ∙ s')
 
 -- A hard state, a pointer and finishing.
 module _ (h : Header) (es : List RecoveredRaftLogEntry) (cs : List ℕ) (f : Fits h es cs) (le : length es ≡ 64) (lc : length cs ≡ 4096) where

@@ -3,14 +3,13 @@
 use mathlib.Core.Path.{◌≡◌, refl, sym, ap, ◌∙◌}
 use mathlib.Core.Bool.{Bool, true, false, cond}
 use mathlib.Core.List.{List}
-use mathlib.Core.Option.{none}
 use Prim.Native.Nat.{ℕ, ◌+◌, ◌-◌, ◌*◌, ◌<◌, ◌≤◌, min, max}
 use native.Mathlib.Omega.{arith}
 use native.Mathlib.Nat.{zero-add}
 use borrow.Author.Tests.{ltb-true, ltb-false, le-leb, lt-leb}
 use lib.Dec.{ltb}
 use lib.ListN.{length, get_or, drop, drop_of_length-le}
-use Rattle.std.specs.Prelude.{if◌then◌else◌}
+use Rattle.std.specs.Prelude.{if◌then◌else◌, Option, None, Some}
 use Rattle.definition.specs.Table.{◌<?◌, ◌≤?◌, u64_max}
 use Rattle.definition.specs.Log as D
 use Rattle.ids.specs.declared.Lsn.{Lsn}
@@ -18,8 +17,6 @@ use Rattle.store.specs.Splice.{part}
 use Rattle.store.specs.Zeros.{zeros}
 use Rattle.store.proofs.Part.{length_part, part_left, part_right, part_part, get_d_in, get_d_part}
 use Rattle.store.proofs.Zeros.{part_zeros}
-use Rattle.codec.specs.declared.MaybeHardState.{MaybeHardState}
-use Rattle.codec.specs.declared.MaybeHardState.TheVariants as H
 use Rattle.codec.specs.declared.RaftSnapshotPointerRecord.{RaftSnapshotPointerRecord}
 use Rattle.codec.specs.Records.{vote_of, hard_state_of, maybe_hard_state_of, pointer_of}
 use Rattle.view.specs.declared.RecoveredRaftLogEntry.{RecoveredRaftLogEntry}
@@ -29,6 +26,7 @@ use Rattle.view.specs.Meaning.{no_entry, cell_at, cell_of, entry_at, view_of, ba
 use Rattle.view.specs.Model.{unvoted_hard, raised_hard, covered_by, with_pointer, dropped_entries, dropped_bytes}
 use Rattle.view.proofs.Tab.{length_tab, tab_drop}
 use Rattle.view.proofs.Block.{by_payload}
+use Rattle.codec.specs.declared.HardState.{HardState}
 
 module _ (h : Header) (es : List RecoveredRaftLogEntry) (cs : List ℕ) (k : ℕ) (f : Fits h es cs) (le : length es ≡ 64) (lc : length cs ≡ 4096) (lk : k ≤ h.len) where
   abbrev es' : List RecoveredRaftLogEntry
@@ -98,15 +96,15 @@ module _ (h : Header) (es : List RecoveredRaftLogEntry) (cs : List ℕ) (k : ℕ
               cell_moved i li ∙ f.spare (k + i) (omega arith) li
           go false x = cell_cleared i (ltb-false (k + i) 64 x) l'
 
-raised_means : (p : RaftSnapshotPointerRecord) (o : MaybeHardState) → hard_state_of (raised_hard p o) ≡ D.raised_by (pointer_of p) (maybe_hard_state_of o)
+raised_means : (p : RaftSnapshotPointerRecord) (o : Option HardState) → hard_state_of (raised_hard p o) ≡ D.raised_by (pointer_of p) (maybe_hard_state_of o)
 unfolding D.raised_by
-raised_means p H.None = refl
-raised_means p (H.Some o) = go (o.current_term <? p.last_included_term) refl
+raised_means p None = refl
+raised_means p (Some o) = go (o.current_term <? p.last_included_term) refl
   where
     go : (b : Bool) → (o.current_term <? p.last_included_term) ≡ b →
         hard_state_of (cond b (unvoted_hard p.last_included_term p.last_included_index) (record { current_term = o.current_term; voted_for = o.voted_for; commit = max o.commit p.last_included_index }))
         ≡ (if p.last_included_term ≤? o.current_term then record { current_term = o.current_term; voted_for = vote_of o.voted_for; commit = max o.commit p.last_included_index }
-        else record { current_term = p.last_included_term; voted_for = none; commit = p.last_included_index })
+        else record { current_term = p.last_included_term; voted_for = None; commit = p.last_included_index })
     go true e = rw (lt-leb p.last_included_term o.current_term (ltb-true o.current_term p.last_included_term e))
     go false e = rw (le-leb p.last_included_term o.current_term (ltb-false o.current_term p.last_included_term e))
 

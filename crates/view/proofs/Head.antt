@@ -3,21 +3,18 @@
 use mathlib.Core.Path.{◌≡◌, refl, sym, ap}
 use mathlib.Core.Bool.{Bool, true, false, cond}
 use mathlib.Core.List.{List, [], ◌∷◌}
-use mathlib.Core.Option.{none, some}
 use Prim.Native.Nat.{ℕ, zero, suc, ◌*◌, ◌<◌, ◌≤◌, max}
 use native.Mathlib.Omega.{arith}
 use borrow.Author.Tests.{le-ltb}
 use lib.Dec.{ltb, eqb}
 use lib.ListN.{length, get_or, take}
-use Rattle.std.specs.Prelude.{if◌then◌else◌}
+use Rattle.std.specs.Prelude.{if◌then◌else◌, Option, None, Some}
 use Rattle.definition.specs.Log as D
 use Rattle.ids.specs.declared.Lsn.{Lsn}
 use Rattle.ids.specs.declared.RaftReplicaIdentity.{RaftReplicaIdentity}
 use Rattle.store.specs.Zeros.{zeros}
 use Rattle.store.proofs.Zeros.{part_zeros}
 use Rattle.codec.specs.declared.HardState.{HardState}
-use Rattle.codec.specs.declared.MaybeHardState.{MaybeHardState}
-use Rattle.codec.specs.declared.MaybeHardState.TheVariants as H
 use Rattle.codec.specs.Records.{hard_state_of, maybe_hard_state_of}
 use Rattle.view.specs.declared.RecoveredRaftLogEntry.{RecoveredRaftLogEntry}
 use Rattle.view.specs.declared.Header.{Header}
@@ -50,7 +47,7 @@ module _ (h : Header) (es : List RecoveredRaftLogEntry) (cs : List ℕ) where
   hard_state_fits x l f = head_fits f refl refl
 
   -- Another hard state, its LSN untouched.
-  pub hard_view : (x : MaybeHardState) → view_of (with_hard h x) es cs ≡ D.with_hard (maybe_hard_state_of x) (view_of h es cs)
+  pub hard_view : (x : Option HardState) → view_of (with_hard h x) es cs ≡ D.with_hard (maybe_hard_state_of x) (view_of h es cs)
   unfolding view_of D.with_hard
   hard_view x = refl
 
@@ -73,27 +70,27 @@ largest_tab (suc n) (e ∷ es) g l k =
     let b : D.largest_term (tab n (λ i. g (suc i))) ≡ largest_of (take n es) = largest_tab n es (λ i. g (suc i)) (omega arith) (λ i j. k (suc i) (omega arith)) in
     λ t. max (a t) (b t)
 
-normalized_means : (m c : ℕ) (o : MaybeHardState) → hard_state_of (normalized_hard m c o) ≡ D.normalized_to m c (maybe_hard_state_of o)
+normalized_means : (m c : ℕ) (o : Option HardState) → hard_state_of (normalized_hard m c o) ≡ D.normalized_to m c (maybe_hard_state_of o)
 unfolding D.normalized_to
-normalized_means m c H.None = refl
-normalized_means m c (H.Some o) = go (ltb o.current_term m)
+normalized_means m c None = refl
+normalized_means m c (Some o) = go (ltb o.current_term m)
   where
-    go : (b : Bool) → hard_state_of (cond b (unvoted_hard m o.commit) o) ≡ (if b then record { current_term = m; voted_for = none; commit = o.commit } else hard_state_of o)
+    go : (b : Bool) → hard_state_of (cond b (unvoted_hard m o.commit) o) ≡ (if b then record { current_term = m; voted_for = None; commit = o.commit } else hard_state_of o)
     go true = refl
     go false = refl
 
-finished_means : (m c : ℕ) (o : MaybeHardState)
-    → maybe_hard_state_of (cond (eqb m 0) o (H.Some (normalized_hard m c o))) ≡ (if eqb m 0 then maybe_hard_state_of o else some (D.normalized_to m c (maybe_hard_state_of o)))
+finished_means : (m c : ℕ) (o : Option HardState)
+    → maybe_hard_state_of (cond (eqb m 0) o (Some (normalized_hard m c o))) ≡ (if eqb m 0 then maybe_hard_state_of o else Some (D.normalized_to m c (maybe_hard_state_of o)))
 finished_means m c o = go (eqb m 0)
   where
-    go : (b : Bool) → maybe_hard_state_of (cond b o (H.Some (normalized_hard m c o))) ≡ (if b then maybe_hard_state_of o else some (D.normalized_to m c (maybe_hard_state_of o)))
+    go : (b : Bool) → maybe_hard_state_of (cond b o (Some (normalized_hard m c o))) ≡ (if b then maybe_hard_state_of o else Some (D.normalized_to m c (maybe_hard_state_of o)))
     go true = refl
-    go false = ap some (normalized_means m c o)
+    go false = ap Some (normalized_means m c o)
 
 -- Finishing again by the same largest term changes nothing: no hard state is below it any more.
-normalized_again : (m c : ℕ) (o : MaybeHardState) → normalized_hard m c (H.Some (normalized_hard m c o)) ≡ normalized_hard m c o
-normalized_again m c H.None = rw (le-ltb m m (omega arith))
-normalized_again m c (H.Some o) = go (ltb o.current_term m) refl
+normalized_again : (m c : ℕ) (o : Option HardState) → normalized_hard m c (Some (normalized_hard m c o)) ≡ normalized_hard m c o
+normalized_again m c None = rw (le-ltb m m (omega arith))
+normalized_again m c (Some o) = go (ltb o.current_term m) refl
   where
     go : (b : Bool) → ltb o.current_term m ≡ b → normalized_from m (cond b (unvoted_hard m o.commit) o) ≡ cond b (unvoted_hard m o.commit) o
     go true e = rw (le-ltb m m (omega arith))
@@ -102,12 +99,12 @@ normalized_again m c (H.Some o) = go (ltb o.current_term m) refl
 pub finished_again : (h : Header) (m : ℕ) → finished (finished h m) m ≡ finished h m
 finished_again h m = ap (with_hard h) (go (eqb m 0))
   where
-    once : MaybeHardState
-    once = H.Some (normalized_hard m h.committed_index h.hard_state)
+    once : Option HardState
+    once = Some (normalized_hard m h.committed_index h.hard_state)
 
-    go : (b : Bool) → cond b (cond b h.hard_state once) (H.Some (normalized_hard m h.committed_index (cond b h.hard_state once))) ≡ cond b h.hard_state once
+    go : (b : Bool) → cond b (cond b h.hard_state once) (Some (normalized_hard m h.committed_index (cond b h.hard_state once))) ≡ cond b h.hard_state once
     go true = refl
-    go false = ap {B = MaybeHardState} H.Some (normalized_again m h.committed_index h.hard_state)
+    go false = ap {B = Option HardState} Some (normalized_again m h.committed_index h.hard_state)
 
 module _ (h : Header) (es : List RecoveredRaftLogEntry) (cs : List ℕ) (l : h.len ≤ length es) where
   pub maximum_is : D.maximum_observed_term (view_of h es cs) ≡ maximum_term h es

@@ -1,9 +1,9 @@
 -- A fit record, kept: its cell is a cell, and what is kept means what the record said.
 -- Assumes nothing.
+use Rattle.std.specs.Prelude.{Some}
 use mathlib.Core.Path.{◌≡◌, refl, sym, ◌∙◌}
 use mathlib.Core.Bool.{Bool, true, false, true≢false}
 use mathlib.Core.List.{List, []}
-use mathlib.Core.Option.{some}
 use Prim.Native.Nat.{ℕ, ◌+◌, ◌-◌, ◌≤◌}
 use native.Mathlib.Omega.{arith}
 use borrow.Author.Tests.{leb-true, leb-false, ltb-false, le-leb, eq-eqb}
@@ -97,7 +97,7 @@ module _ (kept : EntryPayload) (store : List ℕ) (at : ℕ) (payload : DurableR
   cells_same = rw (e, e') (same_command_lem store at len lent place size short fits_lent.there)
 
 -- What is told of a held entry is so.
-pub existing_tells : (e : RecoveredRaftLogEntry) (cell : List ℕ) (r : RaftLogEntryRecord) (lent : List ℕ) → Tells (existing_of e cell r lent) (some (entry_of e cell)) (log_entry_of r lent)
+pub existing_tells : (e : RecoveredRaftLogEntry) (cell : List ℕ) (r : RaftLogEntryRecord) (lent : List ℕ) → Tells (Some (existing_of e cell r lent)) (Some (entry_of e cell)) (log_entry_of r lent)
 existing_tells e cell r lent = (refl, λ t. rw (eq-eqb e.term r.term t))
 
 -- Writing a command's cell asks no more.

@@ -4,6 +4,7 @@ pub mod Cells
 pub mod Dropped
 pub mod Head
 pub mod Kept
+pub mod Largest
 pub mod Readers
 pub mod Rows
 pub mod Same

@@ -3,18 +3,14 @@
 use mathlib.Core.Path.{◌≡◌, refl, sym, ap}
 use mathlib.Core.Bool.{Bool, true, false}
 use mathlib.Core.List.{List}
-use mathlib.Core.Option.{Option, none, some, map}
 use Prim.Native.Nat.{ℕ, zero, suc, ◌+◌, ◌-◌, ◌<◌, ◌≤◌, pred}
 use native.Mathlib.Omega.{arith}
 use borrow.Author.Tests.{eqb-true, eqb-false, ltb-true, leb-true, ne_eqb}
 use lib.ListN.{get_or}
-use Rattle.std.specs.Prelude.{if◌then◌else◌}
+use Rattle.std.specs.Prelude.{if◌then◌else◌, Option, None, Some, option_map}
 use Rattle.definition.specs.Table.{◌=?◌, ◌<?◌, ◌≤?◌, or_zero, u64_max}
 use Rattle.definition.specs.Log as D
 use Rattle.ids.specs.declared.Lsn.{Lsn}
-use Rattle.view.specs.declared.MaybeLsn.TheVariants as L
-use Rattle.view.specs.declared.Place.{Place}
-use Rattle.view.specs.declared.Place.TheVariants as Q
 use Rattle.view.specs.declared.RecoveredRaftLogEntry.{RecoveredRaftLogEntry}
 use Rattle.view.specs.declared.Header.{Header}
 use Rattle.view.specs.Tab.{tab}
@@ -22,12 +18,12 @@ use Rattle.view.specs.Meaning.{lsn_of, no_entry, entry_at, view_of, base_of}
 use Rattle.view.specs.Readers.{first_index_of, boundary_of, last_entry_of, last_index_of, last_of, place_of, at_place, first_retained_of}
 use Rattle.view.proofs.Tab.{length_tab, get_elem_tab}
 
-first_of_tab : (n : ℕ) (l : Lsn) (f : ℕ → D.Entry ℕ) → (f 0).lsn ≡ l.0 → D.first_lsn (tab n f) ≡ lsn_of (if n =? 0 then L.None else L.Some l)
+first_of_tab : (n : ℕ) (l : Lsn) (f : ℕ → D.Entry ℕ) → (f 0).lsn ≡ l.0 → D.first_lsn (tab n f) ≡ lsn_of (if n =? 0 then None else Some l)
 unfolding tab
 first_of_tab zero l f e = refl
 first_of_tab (suc n) l f e =
     let z : (suc n =? 0) ≡ false = ne_eqb (suc n) 0 (λ x. omega arith) in
-    rw z (ap some e)
+    rw z (ap Some e)
 
 module _ (h : Header) (es : List RecoveredRaftLogEntry) (cs : List ℕ) where
   pub count_is : D.count (view_of h es cs) ≡ h.len
@@ -60,8 +56,8 @@ module _ (h : Header) (es : List RecoveredRaftLogEntry) (cs : List ℕ) where
   at_is x = rw (base_is, place_is x, entries_are, get_elem_tab h.len (entry_at es cs) (x - base_of h)) (go (base_of h ≤? x) (x - base_of h <? h.len))
     where
       go : (a b : Bool) →
-          ◌≡◌ {A = Option (D.Entry ℕ)} (if a then (if b then some (entry_at es cs (x - base_of h)) else none) else none)
-          (at_place (if a then (if b then Q.Held (x - base_of h) else Q.None) else Q.None) (entry_at es cs))
+          ◌≡◌ {A = Option (D.Entry ℕ)} (if a then (if b then Some (entry_at es cs (x - base_of h)) else None) else None)
+          (at_place (if a then (if b then Some (x - base_of h) else None) else None) (entry_at es cs))
       go true true = refl
       go true false = refl
       go false b = refl
@@ -70,7 +66,7 @@ module _ (h : Header) (es : List RecoveredRaftLogEntry) (cs : List ℕ) where
   unfolding D.first_retained_lsn
   first_retained_is = rw entries_are (go h.len)
     where
-      go : (n : ℕ) → D.first_lsn (tab n (entry_at es cs)) ≡ lsn_of (if n =? 0 then L.None else L.Some (get_or es 0 no_entry).lsn)
+      go : (n : ℕ) → D.first_lsn (tab n (entry_at es cs)) ≡ lsn_of (if n =? 0 then None else Some (get_or es 0 no_entry).lsn)
       go n = first_of_tab n (get_or es 0 no_entry).lsn (entry_at es cs) refl
 
   -- Where the indices keep their limit nothing is cut off.
@@ -83,8 +79,8 @@ module _ (h : Header) (es : List RecoveredRaftLogEntry) (cs : List ℕ) where
     last_index_is = rw (count_is, boundary_is, base_is, last_entry) (go (h.len =? 0) (h.snapshot_index =? 0))
       where
         go : (a b : Bool) →
-            ◌≡◌ {A = Option ℕ} (if a then map (λ (x : ℕ × ℕ). x.0) (if b then none else some (h.snapshot_index, h.snapshot_term)) else some (pred (base_of h + h.len)))
-            (if a then (if b then none else some h.snapshot_index) else some (pred (base_of h + h.len)))
+            ◌≡◌ {A = Option ℕ} (if a then option_map (λ (x : ℕ × ℕ). x.0) (if b then None else Some (h.snapshot_index, h.snapshot_term)) else Some (pred (base_of h + h.len)))
+            (if a then (if b then None else Some h.snapshot_index) else Some (pred (base_of h + h.len)))
         go true true = refl
         go true false = refl
         go false b = refl
@@ -94,7 +90,7 @@ module _ (h : Header) (es : List RecoveredRaftLogEntry) (cs : List ℕ) where
     last_is = rw last_index_is (go (h.len =? 0) (h.snapshot_index =? 0) refl)
       where
         go : (a b : Bool) → (h.snapshot_index =? 0) ≡ b →
-            ◌≡◌ {A = ℕ} (or_zero (λ n. n) (if a then (if b then none else some h.snapshot_index) else some (last_entry_of h)))
+            ◌≡◌ {A = ℕ} (or_zero (λ n. n) (if a then (if b then None else Some h.snapshot_index) else Some (last_entry_of h)))
             (if a then h.snapshot_index else last_entry_of h)
         go true true e = sym (eqb-true h.snapshot_index 0 e)
         go true false e = refl
@@ -105,11 +101,11 @@ pub record Held (h : Header) (x q : ℕ) : Type 0 where
   pub below : q < h.len
   pub index : base_of h + q ≡ x
 
-pub held_at_lem : (h : Header) (x q : ℕ) → place_of h x ≡ Q.Held q → Held h x q
+pub held_at_lem : (h : Header) (x q : ℕ) → place_of h x ≡ Some q → Held h x q
 held_at_lem h x q = go (base_of h ≤? x) (x - base_of h <? h.len) refl refl
   where
     go : (a b : Bool) → (base_of h ≤? x) ≡ a → (x - base_of h <? h.len) ≡ b
-        → ◌≡◌ {A = Place} (if a then (if b then Q.Held (x - base_of h) else Q.None) else Q.None) (Q.Held q) → Held h x q
+        → ◌≡◌ {A = Option ℕ} (if a then (if b then Some (x - base_of h) else None) else None) (Some q) → Held h x q
     go true true p r e =
         let f : base_of h ≤ x = leb-true (base_of h) x p in
         let l : x - base_of h < h.len = ltb-true (x - base_of h) h.len r in

@@ -3,11 +3,10 @@
 use mathlib.Core.Path.{◌≡◌, refl, sym, ◌∙◌}
 use mathlib.Core.Bool.{Bool, true, false, ◌&&◌, not}
 use mathlib.Core.List.{List, [], ◌∷◌}
-use mathlib.Core.Option.{Option, none, some, map}
 use Prim.Native.Nat.{ℕ, ◌<◌}
 use native.Mathlib.Omega.{arith}
 use borrow.Author.Tests.{eqb-true, ne_eqb}
-use Rattle.std.specs.Prelude.{if◌then◌else◌}
+use Rattle.std.specs.Prelude.{if◌then◌else◌, Option, None, Some, option_map}
 use Rattle.definition.specs.Table.{◌=?◌, ◌≠?◌, ◌<?◌, ◌≤?◌, Row, ◌when◌, first_of, is_some, if_some}
 use Rattle.definition.specs.Records.{Identity, LogEntry, same_payload, Kind, entry, hard_state, pointer}
 use Rattle.definition.specs.Log as D
@@ -17,15 +16,11 @@ use Rattle.codec.specs.declared.HardState.{HardState}
 use Rattle.codec.specs.declared.RaftSnapshotPointerRecord.{RaftSnapshotPointerRecord}
 use Rattle.codec.specs.Records.{hard_state_of, pointer_of}
 use Rattle.view.specs.declared.Existing.{Existing}
-use Rattle.view.specs.declared.Existing.TheVariants as X
-use Rattle.view.specs.declared.MaybeTerm.{MaybeTerm}
-use Rattle.view.specs.declared.Place.{Place}
-use Rattle.view.specs.declared.Place.TheVariants as Q
 use Rattle.view.specs.declared.RecoveredRaftLogEntry.{RecoveredRaftLogEntry}
 use Rattle.view.specs.declared.Header.{Header}
 use Rattle.view.specs.Meaning.{snapshot_of, entry_at, view_of, Fits}
 use Rattle.view.specs.Readers.{place_of, at_place}
-use Rattle.view.specs.Decisions.{answered, maybe_term_of, Tells, new_rows, held_rows, held_from, replay_rows_of, accepted_as, entry_answer, hard_state_rows_of, install_rows_of, pointer_rows_of}
+use Rattle.view.specs.Decisions.{answered, Tells, new_rows, held_rows, held_from, replay_rows_of, accepted_as, entry_answer, hard_state_rows_of, install_rows_of, pointer_rows_of}
 use Rattle.view.proofs.Readers.{count_is, last_is, place_is, at_is, Held, held_at_lem}
 
 -- One row before two tables.
@@ -33,37 +28,37 @@ one_more_lem : (r : Row) (l m : List Row) → first_of l ≡ first_of m → firs
 one_more_lem (n when true) l m e = refl
 one_more_lem (n when false) l m e = e
 
-some_map : {A B : Type 0} (p : B → Bool) (g : A → B) (o : Option A) → if_some p (map g o) ≡ if_some (λ a. p (g a)) o
-some_map p g none = refl
-some_map p g (some a) = refl
+some_map : {A B : Type 0} (p : B → Bool) (g : A → B) (o : Option A) → if_some p (option_map g o) ≡ if_some (λ a. p (g a)) o
+some_map p g None = refl
+some_map p g (Some a) = refl
 
 judged_answer : (o : Option ℕ) (k : Kind) (t : ℕ) (l : D.Log ℕ) → (judged o k t l).answer ≡ answered o (D.answer_to k l)
 unfolding judged
-judged_answer none k t l = refl
-judged_answer (some n) k t l = refl
+judged_answer None k t l = refl
+judged_answer (Some n) k t l = refl
 
 module _ (h : Header) (es : List RecoveredRaftLogEntry) (cs : List ℕ) (f : Fits h es cs) where
   abbrev log : D.Log ℕ
   log = view_of h es cs
 
   -- where an index is held there are entries
-  not_empty : (x : ℕ) (o : D.Entry ℕ) → D.at log x ≡ some o → D.is_empty log ≡ false
+  not_empty : (x : ℕ) (o : D.Entry ℕ) → D.at log x ≡ Some o → D.is_empty log ≡ false
   not_empty x o e = rw (count_is h es cs) (go (place_of h x) refl (sym (at_is h es cs x) ∙ e))
     where
-      go : (p : Place) → place_of h x ≡ p → at_place p (entry_at es cs) ≡ some o → (h.len =? 0) ≡ false
-      go Q.None a b = absurd (none_some b)
-      go (Q.Held q) a b =
+      go : (p : Option ℕ) → place_of h x ≡ p → at_place p (entry_at es cs) ≡ Some o → (h.len =? 0) ≡ false
+      go None a b = absurd (none_some b)
+      go (Some q) a b =
           let k : Held h x q = held_at_lem h x q a in
           let l : q < h.len = k.below in
           ne_eqb h.len 0 (λ z. omega arith)
 
   -- An entry: what is told of the entry at its index is so, and `prior` is the predecessor's term.
-  module _ (e : LogEntry) (old : Existing) (prior : ℕ) (tells : Tells old (D.at log e.index) e) (before : D.predecessor_term log e.index ≡ prior) where
-    new_rows_lem : D.at log e.index ≡ none → first_of (D.replay_rows e log) ≡ first_of (new_rows h prior e.index e.term)
+  module _ (e : LogEntry) (old : Option Existing) (prior : ℕ) (tells : Tells old (D.at log e.index) e) (before : D.predecessor_term log e.index ≡ prior) where
+    new_rows_lem : D.at log e.index ≡ None → first_of (D.replay_rows e log) ≡ first_of (new_rows h prior e.index e.term)
     unfolding D.replay_rows D.is_held D.same_term D.same_content view_of
     new_rows_lem p = rw (p, count_is h es cs, last_is h es cs f.indices, before)
 
-    held_rows_lem : (o : D.Entry ℕ) (term : ℕ) (same : Bool) → D.at log e.index ≡ some o → o.term ≡ term → (term ≡ e.term → same_payload o.payload e.payload ≡ same)
+    held_rows_lem : (o : D.Entry ℕ) (term : ℕ) (same : Bool) → D.at log e.index ≡ Some o → o.term ≡ term → (term ≡ e.term → same_payload o.payload e.payload ≡ same)
         → first_of (D.replay_rows e log) ≡ first_of (held_rows h term same prior e.index e.term)
     unfolding D.replay_rows D.is_held D.same_term D.same_content view_of
     held_rows_lem o term same p q r = rw (not_empty e.index o p, p, q, before) (go (term =? e.term) refl)
@@ -80,25 +75,25 @@ module _ (h : Header) (es : List RecoveredRaftLogEntry) (cs : List ℕ) (f : Fit
     pub replay_rows_lem : first_of (D.replay_rows e log) ≡ first_of (replay_rows_of h old prior e.index e.term)
     replay_rows_lem = go old (D.at log e.index) refl tells
       where
-        go : (x : Existing) (a : Option (D.Entry ℕ)) → D.at log e.index ≡ a → Tells x a e → first_of (D.replay_rows e log) ≡ first_of (replay_rows_of h x prior e.index e.term)
-        go X.None none p t = new_rows_lem p
-        go X.None (some o) p t = absurd t
-        go (X.Some term same) none p t = absurd t
-        go (X.Some term same) (some o) p t = held_rows_lem o term same p t.0 t.1
+        go : (x : Option Existing) (a : Option (D.Entry ℕ)) → D.at log e.index ≡ a → Tells x a e → first_of (D.replay_rows e log) ≡ first_of (replay_rows_of h x prior e.index e.term)
+        go None None p t = new_rows_lem p
+        go None (Some o) p t = absurd t
+        go (Some x) None p t = absurd t
+        go (Some x) (Some o) p t = held_rows_lem o x.term x.same_payload p t.0 t.1
 
     accepted_as_lem : (version : ℕ) → D.answer_to (entry version e) log ≡ accepted_as h old e.index e.term
     unfolding D.answer_to D.is_held D.same_term
     accepted_as_lem version = rw (count_is h es cs, place_is h es cs e.index) (go old (D.at log e.index) tells)
       where
-        go : (x : Existing) (a : Option (D.Entry ℕ)) → Tells x a e →
+        go : (x : Option Existing) (a : Option (D.Entry ℕ)) → Tells x a e →
             (if is_some a
             then (if if_some (λ o. o.term =? e.term) a then D.idempotentReplay else D.replaced_suffix (record { removed_entries = held_from h e.index }))
             else D.appended)
             ≡ accepted_as h x e.index e.term
-        go X.None none t = refl
-        go X.None (some o) t = absurd t
-        go (X.Some term same) none t = absurd t
-        go (X.Some term same) (some o) t = rw t.0
+        go None None t = refl
+        go None (Some o) t = absurd t
+        go (Some x) None t = absurd t
+        go (Some x) (Some o) t = rw t.0
 
     -- what is observed is refused by the definition's rows ..
     pub entry_rows : (i : Identity) (version : ℕ) → first_of (D.rows i (entry version e) log) ≡ first_of ((24 when e.index ≤? h.progress.truncated_through_index) ∷ replay_rows_of h old prior e.index e.term)
@@ -126,12 +121,12 @@ module _ (h : Header) (es : List RecoveredRaftLogEntry) (cs : List ℕ) (f : Fit
       judged_answer (first_of (D.rows i (hard_state version (hard_state_of x)) log)) (hard_state version (hard_state_of x)) t log ∙ (rw (hard_state_rows_lem i version x))
 
   -- A pointer, where `held` is the term of the entry at its index.
-  module _ (p : RaftSnapshotPointerRecord) (held : MaybeTerm) (told : map (λ o. o.term) (D.at log p.last_included_index) ≡ maybe_term_of held) where
+  module _ (p : RaftSnapshotPointerRecord) (held : Option ℕ) (told : option_map (λ o. o.term) (D.at log p.last_included_index) ≡ held) where
     pub install_rows_lem : D.install_rows (pointer_of p) log ≡ install_rows_of h p held
     unfolding D.install_rows view_of
     install_rows_lem = rw (← told, some_map (λ (x : ℕ). x ≠? p.last_included_term) (λ (o : D.Entry ℕ). o.term) (D.at log p.last_included_index))
 
-    kept_pointer_lem : (i : Identity) → D.kept_pointer i log ≡ map (λ q. record { identity = i; snapshot = q }) (snapshot_of h.snapshot)
+    kept_pointer_lem : (i : Identity) → D.kept_pointer i log ≡ option_map (λ q. record { identity = i; snapshot = q }) (snapshot_of h.snapshot)
     unfolding view_of
     kept_pointer_lem i = refl
 

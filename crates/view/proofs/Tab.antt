@@ -3,12 +3,11 @@
 use mathlib.Core.Path.{◌≡◌, refl, ap, ◌∙◌}
 use mathlib.Core.Bool.{Bool, true, false}
 use mathlib.Core.List.{List, [], ◌∷◌, ◌++◌}
-use mathlib.Core.Option.{none, some}
 use Prim.Native.Nat.{ℕ, zero, suc, ◌+◌, ◌<◌, ◌≤◌}
 use native.Mathlib.Omega.{arith}
 use borrow.Author.Tests.{ltb-true, ltb-false}
-use lib.ListN.{length, get_or, set, take, drop, get_elem?}
-use Rattle.std.specs.Prelude.{if◌then◌else◌}
+use lib.ListN.{length, get_or, set, take, drop}
+use Rattle.std.specs.Prelude.{if◌then◌else◌, None, Some, slice_get}
 use Rattle.definition.specs.Table.{◌<?◌}
 use Rattle.view.specs.Tab.{tab}
 
@@ -24,22 +23,22 @@ module _ {A : Type 0} where
   get_d_tab (suc n) f zero z h = refl
   get_d_tab (suc n) f (suc i) z h = get_d_tab n (λ i. f (suc i)) i z (omega arith)
 
-  get_elem_in : (n : ℕ) (f : ℕ → A) (i : ℕ) → i < n → get_elem? (tab n f) i ≡ some (f i)
+  get_elem_in : (n : ℕ) (f : ℕ → A) (i : ℕ) → i < n → slice_get (tab n f) i ≡ Some (f i)
   unfolding tab
   get_elem_in zero f i h = absurd (omega arith)
   get_elem_in (suc n) f zero h = refl
   get_elem_in (suc n) f (suc i) h = get_elem_in n (λ i. f (suc i)) i (omega arith)
 
-  get_elem_out : (n : ℕ) (f : ℕ → A) (i : ℕ) → n ≤ i → get_elem? (tab n f) i ≡ none
+  get_elem_out : (n : ℕ) (f : ℕ → A) (i : ℕ) → n ≤ i → slice_get (tab n f) i ≡ None
   unfolding tab
   get_elem_out zero f i h = refl
   get_elem_out (suc n) f zero h = absurd (omega arith)
   get_elem_out (suc n) f (suc i) h = get_elem_out n (λ i. f (suc i)) i (omega arith)
 
-  pub get_elem_tab : (n : ℕ) (f : ℕ → A) (i : ℕ) → get_elem? (tab n f) i ≡ (if i <? n then some (f i) else none)
+  pub get_elem_tab : (n : ℕ) (f : ℕ → A) (i : ℕ) → slice_get (tab n f) i ≡ (if i <? n then Some (f i) else None)
   get_elem_tab n f i = go (i <? n) refl
     where
-      go : (b : Bool) → (i <? n) ≡ b → get_elem? (tab n f) i ≡ (if b then some (f i) else none)
+      go : (b : Bool) → (i <? n) ≡ b → slice_get (tab n f) i ≡ (if b then Some (f i) else None)
       go true e = get_elem_in n f i (ltb-true i n e)
       go false e = get_elem_out n f i (ltb-false i n e)
 

@@ -13,7 +13,6 @@ use Rattle.codec.specs.Records.{payload_of}
 use Rattle.view.specs.declared.EntryPayload.{EntryPayload}
 use Rattle.view.specs.declared.EntryPayload.TheVariants as Y
 use Rattle.view.specs.declared.Existing.{Existing}
-use Rattle.view.specs.declared.Existing.TheVariants as X
 use Rattle.view.specs.declared.RecoveredRaftLogEntry.{RecoveredRaftLogEntry}
 use Rattle.view.specs.Meaning.{payload_in, size_of}
 
@@ -37,7 +36,7 @@ pub record Comparable (kept : EntryPayload) (store : List ℕ) (at : ℕ) (paylo
 
 -- What is told of a held entry, its cell and a record: payloads are compared only in the same term.
 abbrev pub existing_of : RecoveredRaftLogEntry → List ℕ → RaftLogEntryRecord → List ℕ → Existing
-existing_of e cell r lent = X.Some e.term (e.term =? r.term && same_payload (payload_in e.payload cell) (payload_of r.payload lent))
+existing_of e cell r lent = record { term = e.term; same_payload = e.term =? r.term && same_payload (payload_in e.payload cell) (payload_of r.payload lent) }
 
 -- What writing a payload's cell at a byte of the store asks.
 pub record Writable (store : List ℕ) (at : ℕ) (payload : DurableRaftEntryPayload) (lent : List ℕ) : Type 0 where

@@ -1,7 +1,6 @@
 -- What a header, its 64 entries and its 4,096 bytes mean: a replica of the definition. The meaning is total.
 -- Assumes nothing.
-use Rattle.std.specs.Prelude.{◌≡◌, List, ℕ, ◌+◌, ◌*◌, ◌<◌, ◌≤◌, min, length, get_or, take}
-use Rattle.std.proofs.Math.Option.{Option, none, some}
+use Rattle.std.specs.Prelude.{◌≡◌, List, ℕ, ◌+◌, ◌*◌, ◌<◌, ◌≤◌, min, length, get_or, take, Option, None, Some}
 use Rattle.definition.specs.Table.{u64_max}
 use Rattle.definition.specs.Records as D
 use Rattle.definition.specs.Log.{Entry, Log}
@@ -10,25 +9,23 @@ use Rattle.ids.specs.Identity.{identity_of}
 use Rattle.store.specs.Splice.{part}
 use Rattle.store.specs.Zeros.{zeros}
 use Rattle.frontier.specs.Progress.{progress_of}
-use Rattle.codec.specs.declared.MaybePointer.{MaybePointer}
-use Rattle.codec.specs.declared.MaybePointer.TheVariants as P
 use Rattle.codec.specs.Records.{change_of, maybe_hard_state_of, pointer_of}
-use Rattle.view.specs.declared.MaybeLsn.{MaybeLsn}
-use Rattle.view.specs.declared.MaybeLsn.TheVariants as L
 use Rattle.view.specs.declared.EntryPayload.{EntryPayload}
 use Rattle.view.specs.declared.EntryPayload.TheVariants as Y
 use Rattle.view.specs.declared.RecoveredRaftLogEntry.{RecoveredRaftLogEntry}
 use Rattle.view.specs.declared.Header.{Header}
 use Rattle.view.specs.Tab.{tab}
+use Rattle.ids.specs.declared.Lsn.{Lsn}
+use Rattle.codec.specs.declared.RaftSnapshotPointerRecord.{RaftSnapshotPointerRecord}
 
-abbrev pub lsn_of : MaybeLsn → Option ℕ
-lsn_of L.None = none
-lsn_of (L.Some l) = some l.0
+abbrev pub lsn_of : Option Lsn → Option ℕ
+lsn_of None = None
+lsn_of (Some l) = Some l.0
 
 -- A kept pointer is its replica's: its identity says nothing.
-abbrev pub snapshot_of : MaybePointer → Option D.Pointer
-snapshot_of P.None = none
-snapshot_of (P.Some p) = some (pointer_of p)
+abbrev pub snapshot_of : Option RaftSnapshotPointerRecord → Option D.Pointer
+snapshot_of None = None
+snapshot_of (Some p) = Some (pointer_of p)
 
 -- A kept payload; a command's bytes are the first of its cell.
 abbrev pub payload_in : EntryPayload → List ℕ → D.Payload

@@ -1,18 +1,12 @@
 -- Each change of one replica on the declared types: its header, its 64 entries, its 4,096 bytes. What is not said stays.
 -- Assumes nothing.
-use Rattle.std.specs.Prelude.{cond, List, [], ◌∷◌, ◌++◌, ℕ, ◌-◌, ◌*◌, max, min, ltb, eqb, set, take}
+use Rattle.std.specs.Prelude.{cond, List, [], ◌∷◌, ◌++◌, ℕ, ◌-◌, ◌*◌, max, min, ltb, eqb, set, take, Option, None, Some}
 use Rattle.ids.specs.declared.Lsn.{Lsn}
 use Rattle.ids.specs.declared.RaftReplicaIdentity.{RaftReplicaIdentity}
 use Rattle.store.specs.Splice.{splice, part}
 use Rattle.store.specs.Zeros.{zeros, padded}
 use Rattle.codec.specs.declared.HardState.{HardState}
-use Rattle.codec.specs.declared.MaybeHardState.{MaybeHardState}
-use Rattle.codec.specs.declared.MaybeHardState.TheVariants as H
 use Rattle.codec.specs.declared.RaftSnapshotPointerRecord.{RaftSnapshotPointerRecord}
-use Rattle.codec.specs.declared.MaybePointer.TheVariants as P
-use Rattle.codec.specs.declared.Vote.TheVariants as O
-use Rattle.view.specs.declared.MaybeLsn.{MaybeLsn}
-use Rattle.view.specs.declared.MaybeLsn.TheVariants as L
 use Rattle.view.specs.declared.RecoveredRaftLogEntry.{RecoveredRaftLogEntry}
 use Rattle.view.specs.declared.Header.{Header}
 use Rattle.view.specs.Meaning.{after_of, base_of}
@@ -26,11 +20,11 @@ empty_header i =
       snapshot_index = 0;
       snapshot_term = 0;
       committed_index = 0;
-      last_replayed_lsn = L.None;
-      hard_state = H.None;
-      hard_state_lsn = L.None;
-      snapshot = P.None;
-      snapshot_pointer_lsn = L.None;
+      last_replayed_lsn = None;
+      hard_state = None;
+      hard_state_lsn = None;
+      snapshot = None;
+      snapshot_pointer_lsn = None;
       progress = record { truncated_through_index = 0; truncated_through_term = 0; applied_index = 0 };
     }
 
@@ -43,7 +37,7 @@ with_entry h n l =
       snapshot_index = h.snapshot_index;
       snapshot_term = h.snapshot_term;
       committed_index = h.committed_index;
-      last_replayed_lsn = L.Some l;
+      last_replayed_lsn = Some l;
       hard_state = h.hard_state;
       hard_state_lsn = h.hard_state_lsn;
       snapshot = h.snapshot;
@@ -69,7 +63,7 @@ with_commit h commit =
     }
 
 -- Another hard state and another LSN of it.
-abbrev pub with_hard_at : Header → MaybeHardState → MaybeLsn → Header
+abbrev pub with_hard_at : Header → Option HardState → Option Lsn → Header
 with_hard_at h x l =
     record {
       identity = h.identity;
@@ -87,15 +81,15 @@ with_hard_at h x l =
 
 -- A hard state was accepted at LSN l.
 abbrev pub with_hard_state : Header → HardState → Lsn → Header
-with_hard_state h x l = with_hard_at (with_commit h x.commit) (H.Some x) (L.Some l)
+with_hard_state h x l = with_hard_at (with_commit h x.commit) (Some x) (Some l)
 
 -- A hard state, its LSN untouched.
-abbrev pub with_hard : Header → MaybeHardState → Header
+abbrev pub with_hard : Header → Option HardState → Header
 with_hard h x = with_hard_at h x h.hard_state_lsn
 
 -- A hard state of a term, no vote and a commit.
 abbrev pub unvoted_hard : ℕ → ℕ → HardState
-unvoted_hard term commit = record { current_term = term; voted_for = O.None; commit = commit }
+unvoted_hard term commit = record { current_term = term; voted_for = None; commit = commit }
 
 -- The hard state after a pointer.
 abbrev pub raised_from : RaftSnapshotPointerRecord → HardState → HardState
@@ -103,9 +97,9 @@ raised_from p o =
     cond (ltb o.current_term p.last_included_term) (unvoted_hard p.last_included_term p.last_included_index)
     (record { current_term = o.current_term; voted_for = o.voted_for; commit = max o.commit p.last_included_index })
 
-abbrev pub raised_hard : RaftSnapshotPointerRecord → MaybeHardState → HardState
-raised_hard p H.None = unvoted_hard p.last_included_term p.last_included_index
-raised_hard p (H.Some o) = raised_from p o
+abbrev pub raised_hard : RaftSnapshotPointerRecord → Option HardState → HardState
+raised_hard p None = unvoted_hard p.last_included_term p.last_included_index
+raised_hard p (Some o) = raised_from p o
 
 -- The entries that a pointer at an index drops.
 abbrev pub covered_by : Header → ℕ → ℕ
@@ -120,11 +114,11 @@ with_pointer h p l k =
       snapshot_index = p.last_included_index;
       snapshot_term = p.last_included_term;
       committed_index = max h.committed_index p.last_included_index;
-      last_replayed_lsn = L.Some l;
-      hard_state = H.Some (raised_hard p h.hard_state);
+      last_replayed_lsn = Some l;
+      hard_state = Some (raised_hard p h.hard_state);
       hard_state_lsn = h.hard_state_lsn;
-      snapshot = P.Some p;
-      snapshot_pointer_lsn = L.Some l;
+      snapshot = Some p;
+      snapshot_pointer_lsn = Some l;
       progress = record { truncated_through_index = p.last_included_index; truncated_through_term = p.last_included_term; applied_index = p.last_included_index };
     }
 
@@ -140,12 +134,12 @@ maximum_term h es = max h.snapshot_term (largest_of (take h.len es))
 abbrev pub normalized_from : ℕ → HardState → HardState
 normalized_from m o = cond (ltb o.current_term m) (unvoted_hard m o.commit) o
 
-abbrev pub normalized_hard : ℕ → ℕ → MaybeHardState → HardState
-normalized_hard m committed H.None = unvoted_hard m committed
-normalized_hard m committed (H.Some o) = normalized_from m o
+abbrev pub normalized_hard : ℕ → ℕ → Option HardState → HardState
+normalized_hard m committed None = unvoted_hard m committed
+normalized_hard m committed (Some o) = normalized_from m o
 
 abbrev pub finished : Header → ℕ → Header
-finished h m = with_hard h (cond (eqb m 0) h.hard_state (H.Some (normalized_hard m h.committed_index h.hard_state)))
+finished h m = with_hard h (cond (eqb m 0) h.hard_state (Some (normalized_hard m h.committed_index h.hard_state)))
 
 -- The entries and bytes of one block.
 -- An entry at place q, appended or in the place of another, or renewed.

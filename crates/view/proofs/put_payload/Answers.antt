@@ -4,9 +4,3 @@ use Rattle.view.proofs.put_payload.Goals as goal
 
 pub put_cell-requires : goal.put_cell-requires
 put_cell-requires c = command_there _ _ _ _ _ _ c.requires c.in-Normal.is
-
-pub returns-in-Normal : goal.returns-in-Normal
-returns-in-Normal c = simp c.in-Normal.is c.put_cell.ensures
-
-pub returns-in-Configuration : goal.returns-in-Configuration
-returns-in-Configuration c = simp c.in-Configuration.is c.clear.ensures

@@ -1,5 +1,0 @@
--- `owner` meets its contract.
-use Rattle.replay.proofs.owner.Goals as goal
-
-pub returns-in-SnapshotPointer : goal.returns-in-SnapshotPointer
-returns-in-SnapshotPointer c = simp c.in-SnapshotPointer.is

@@ -1,9 +1,0 @@
--- `Header::snapshot_boundary` meets its contract.
-use borrow.Author.Tests.{eq-eqb, ne_eqb}
-use Rattle.view.proofs.Header.snapshot_boundary.Goals as goal
-
-pub returns-then-self-eq0 : goal.returns-then-self-eq0
-returns-then-self-eq0 c = simp (eq-eqb _ _ c.if-self-eq0.true)
-
-pub returns : goal.returns
-returns c = simp (ne_eqb _ _ c.if-self-eq0.false)
