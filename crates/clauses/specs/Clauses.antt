@@ -1,17 +1,16 @@
 -- The clauses of soundness of one header, and of one held entry and its cell.
 -- Assumes nothing.
-use Rattle.std.specs.Prelude.{Bool, ◌&&◌, ◌||◌, List, [], ◌∷◌, ℕ, ◌+◌, drop}
-use Rattle.std.proofs.Math.Option.{Option}
+use Rattle.std.specs.Prelude.{Bool, ◌&&◌, ◌||◌, List, [], ◌∷◌, ℕ, ◌+◌, drop, Option}
 use Rattle.definition.specs.Table.{◌=?◌, ◌≤?◌, every, all_of, present, u64_max}
 use Rattle.definition.specs.Recovery.{nonzero_identity, whole_boundary, pointers_boundary, boundarys_progress, nonzero_vote, reached_by}
 use Rattle.store.specs.Zeros.{all_zero}
-use Rattle.view.specs.declared.MaybeLsn.{MaybeLsn}
 use Rattle.view.specs.declared.Header.{Header}
 use Rattle.view.specs.declared.RecoveredRaftLogEntry.{RecoveredRaftLogEntry}
 use Rattle.view.specs.Meaning.{lsn_of, size_of, log_of, id_of}
+use Rattle.ids.specs.declared.Lsn.{Lsn}
 
 -- No kept LSN exceeds the last scanned.
-abbrev pub lsn_ok : Option ℕ → MaybeLsn → Bool
+abbrev pub lsn_ok : Option ℕ → Option Lsn → Bool
 lsn_ok last l = every (reached_by last) (present (lsn_of l))
 
 -- Each clause that looks at a header alone.

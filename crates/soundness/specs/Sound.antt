@@ -1,8 +1,7 @@
 -- The test of soundness, as it walks: the headers, the held entries and their cells, and zeros in the rest of each block and of
 -- the store. What it stands for: the definition's soundness of what state and store mean, and the limits that this cannot see.
 -- Assumes nothing.
-use Rattle.std.specs.Prelude.{◌≡◌, Bool, true, ◌&&◌, List, [], ◌∷◌, ℕ, zero, suc, ◌<◌, ◌≤◌, length, get_or, take, drop}
-use Rattle.std.proofs.Math.Option.{Option}
+use Rattle.std.specs.Prelude.{◌≡◌, Bool, true, ◌&&◌, List, [], ◌∷◌, ℕ, zero, suc, ◌<◌, ◌≤◌, length, get_or, take, drop, Option}
 use Rattle.definition.specs.Table.{◌=?◌, ◌<?◌, ◌≤?◌, all_of, u64_max}
 use Rattle.definition.specs.Records.{before}
 use Rattle.definition.specs.Recovery.{sound}

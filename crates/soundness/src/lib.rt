@@ -1,55 +1,77 @@
 // The test of soundness: the headers, the held entries and their cells, and zeros in the rest of each block and of the store.
 #![tactic(auto)]
 
-ghost use Rattle.std.specs.Prelude.{◌≡◌, ◌&&◌, cond, ◌≤◌};
-ghost use Rattle.soundness.specs.Sound.{heads_rise, sound_test};
+ghost use Rattle.std.specs.Prelude.{◌≡◌, ◌*◌, ◌≤◌, length};
+ghost use Rattle.view.specs.Meaning.{lsn_of};
+ghost use Rattle.soundness.specs.Sound.{entries_ok, replica_ok, replicas_ok, heads_rise, sound_test};
 
+use ids::Lsn;
 use storage::RecoveredRaftStorage;
-use view::Header;
+use view::{Header, RecoveredRaftLogEntry};
 
-// The entries to walk: none behind a header that is not well.
-fn walked(ok: bool, len: usize) -> usize
-    ensures { result ≡ cond ok len 0 }
+// Entries in a block, each in its cell, and zeros after them.
+#[tactic(auto, using(crate::proofs::Step::entries_step, crate::proofs::Step::entries_end))]
+fn entries_ok(last: Option<Lsn>, entries: &[RecoveredRaftLogEntry], block: &[u8]) -> bool
+    requires { 64 * length entries.now ≤ length block.now }
+    ensures { result ≡ entries_ok (lsn_of last) (length entries.now) entries.now block.now }
 {
-    if ok {
-        return len;
-    }
-    0
-}
-
-// Both flags.
-fn both(a: bool, b: bool) -> bool
-    ensures { result ≡ (a && b) }
-{
-    if a {
-        return b;
-    }
-    false
-}
-
-// Each of n headers is before the next.
-fn heads_rise(n: usize, heads: [Header; 8]) -> bool
-    requires { n ≤ 8 }
-    ensures { result ≡ heads_rise n heads }
-{
-    let mut bad = false;
-    let mut i: usize = 0;
-    while i + 1 < n {
-        let h = heads[i];
-        let next = heads[i + 1];
-        let a = h.identity;
-        let b = next.identity;
-        if !ids::precedes(a, b) {
-            bad = true;
+    for q in 0..entries.len() {
+        if !clauses::entry_ok(last, entries[q], &block[64 * q..64 * q + 64]) {
+            return false;
         }
-        i = i + 1;
     }
-    !bad
+    store::is_zero(&block[64 * entries.len()..])
 }
 
-// Whether a state and its store are sound. All is walked here, since a call with the entries would copy them.
-pub fn is_sound(state: RecoveredRaftStorage, store: &[u8]) -> bool
-    ensures { result ≡ sound_test state store.now }
+// A header, its 64 entry places and its block.
+#[tactic(auto, using(crate::proofs::Step::entries_taken, crate::proofs::Test::head_short))]
+fn replica_ok(
+    last: Option<Lsn>,
+    head: Header,
+    entries: &[RecoveredRaftLogEntry],
+    block: &[u8],
+) -> bool
+    requires { (length entries.now ≡ 64) × (length block.now ≡ 4096) }
+    ensures { result ≡ replica_ok (lsn_of last) head entries.now block.now }
+{
+    clauses::head_ok(last, head) && entries_ok(last, &entries[..head.len], block)
+}
+
+// The replicas that are held, and zeros in the rest of the store.
+#[tactic(auto, using(crate::proofs::Step::replicas_turn, crate::proofs::Step::replicas_end))]
+fn replicas_ok(state: &RecoveredRaftStorage, store: &[u8]) -> bool
+    requires { (state.now.held ≤ 8) × (length store.now ≡ 32768) }
+    ensures { result ≡ replicas_ok (lsn_of state.now.scan.last_scanned_lsn) state.now.held state.now.heads state.now.entries store.now }
+{
+    let last = state.scan.last_scanned_lsn;
+    for p in 0..state.held {
+        let entries = &state.entries[64 * p..64 * p + 64];
+        let block = &store[4096 * p..4096 * p + 4096];
+        if !replica_ok(last, state.heads[p], entries, block) {
+            return false;
+        }
+    }
+    store::is_zero(&store[4096 * state.held..])
+}
+
+// Each of the headers held is before the next.
+#[tactic(auto, using(crate::proofs::Step::heads_turn, crate::proofs::Step::heads_end))]
+fn heads_rise(state: &RecoveredRaftStorage) -> bool
+    requires { state.now.held ≤ 8 }
+    ensures { result ≡ heads_rise state.now.held state.now.heads }
+{
+    for i in 1..state.held {
+        if state.heads[i].identity <= state.heads[i - 1].identity {
+            return false;
+        }
+    }
+    true
+}
+
+// Whether a state and its store are sound.
+#[tactic(auto, unfolding(crate::specs::Sound::sound_clauses))]
+pub fn is_sound(state: &RecoveredRaftStorage, store: &[u8]) -> bool
+    ensures { result ≡ sound_test state.now store.now }
 {
     if store.len() != 32768 {
         return false;
@@ -57,32 +79,8 @@ pub fn is_sound(state: RecoveredRaftStorage, store: &[u8]) -> bool
     if 8 < state.held {
         return false;
     }
-    let scan = state.scan;
-    if u64::MAX <= scan.scanned_records {
+    if u64::MAX <= state.scan.scanned_records {
         return false;
     }
-    let last = scan.last_scanned_lsn;
-    let heads = state.heads;
-    let mut good = heads_rise(state.held, heads);
-    let mut p: usize = 0;
-    while p < state.held {
-        let h = heads[p];
-        let ok = clauses::head_ok(last, h);
-        good = both(good, ok);
-        let block = 4096 * p;
-        let n = walked(ok, h.len);
-        let mut q: usize = 0;
-        while q < n {
-            let e = state.entries[64 * p + q];
-            let at = block + 64 * q;
-            let well = clauses::entry_ok(last, e, &store[at..at + 64]);
-            good = both(good, well);
-            q = q + 1;
-        }
-        let empty = store::is_zero(&store[block + 64 * n..block + 4096]);
-        good = both(good, empty);
-        p = p + 1;
-    }
-    let rest = store::is_zero(&store[4096 * state.held..32768]);
-    both(good, rest)
+    heads_rise(state) && replicas_ok(state, store)
 }

@@ -3,13 +3,12 @@
 use mathlib.Core.Path.{◌≡◌, refl, sym, ap, ◌∙◌}
 use mathlib.Core.Bool.{Bool, true, false, true≢false}
 use mathlib.Core.List.{List, [], ◌∷◌, ◌++◌}
-use mathlib.Core.Option.{none, some}
 use Prim.Native.Nat.{ℕ, zero, suc, ◌<◌, ◌≤◌}
 use native.Mathlib.Omega.{arith}
 use borrow.Author.Tests.{ltb-true, ltb-false, eqb-true, eqb-false}
 use lib.Dec.{ltb, eqb}
 use lib.ListN.{length, get_or, set, take, drop}
-use Rattle.std.specs.Prelude.{if◌then◌else◌}
+use Rattle.std.specs.Prelude.{if◌then◌else◌, None, Some}
 use Rattle.definition.specs.Records.{Identity, same, before}
 use Rattle.definition.specs.Log as D
 use Rattle.definition.specs.Recovery.{Held, held, lookup, place_of, put, ascending, scan}
@@ -133,11 +132,11 @@ replicas_length s st = length_tab s.held (held_at s st)
 module _ (s : RecoveredRaftStorage) (st : List ℕ) (i : Identity) (p : ℕ) (k : Stands s i p) where
   -- It is held at p.
   module _ (lt : p < s.held) (eq : same i (id_of (head_at s p)) ≡ true) where
-    pub held_found : lookup i (meaning s st).replicas ≡ some (log_at s st p)
+    pub held_found : lookup i (meaning s st).replicas ≡ Some (log_at s st p)
     unfolding meaning
     held_found = lookup_at i s.held p (held_at s st) k.low lt eq
 
-    pub held_place : place_of i (meaning s st).replicas ≡ some p
+    pub held_place : place_of i (meaning s st).replicas ≡ Some p
     unfolding meaning
     held_place = place_at i s.held p (held_at s st) k.low lt eq
 
@@ -180,11 +179,11 @@ module _ (s : RecoveredRaftStorage) (st : List ℕ) (i : Identity) (p : ℕ) (k 
               let mid : before (id_of (head_at s p)) (id_of (head_at s j)) ≡ true = ascending_at s.held (held_at s st) asc p j lp l in
               before_same i (id_of (head_at s j)) (before_trans i (id_of (head_at s p)) (id_of (head_at s j)) (over (omega arith)) mid)
 
-      pub open_found : lookup i (meaning s st).replicas ≡ none
+      pub open_found : lookup i (meaning s st).replicas ≡ None
       unfolding meaning
       open_found = lookup_none i s.held (held_at s st) none_same
 
-      pub open_place : place_of i (meaning s st).replicas ≡ none
+      pub open_place : place_of i (meaning s st).replicas ≡ None
       unfolding meaning
       open_place = place_none i s.held (held_at s st) none_same
 

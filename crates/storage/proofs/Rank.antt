@@ -1,10 +1,10 @@
 -- The order of identities, and what is held for one in a list by its places.
 -- Assumes nothing.
+use Rattle.std.specs.Prelude.{None, Some, option_map}
 use mathlib.Core.Path.{◌≡◌, refl, ap, subst}
 use mathlib.Core.Logic.{inl, inr}
 use mathlib.Core.Bool.{Bool, true, false}
 use mathlib.Core.List.{List, ◌∷◌, ◌++◌}
-use mathlib.Core.Option.{none, some, map}
 use Prim.Native.Nat.{ℕ, zero, suc, ◌<◌, ◌≤◌}
 use native.Mathlib.Omega.{arith}
 use lib.ListN.{set, take, drop}
@@ -84,19 +84,19 @@ module _ {L : Type 0} where
 
   module _ (i : Identity) where
     -- i stands at p, after p that are before it
-    pub lookup_at : (n p : ℕ) (f : ℕ → Held L) → ((j : ℕ) → j < p → before (f j).id i ≡ true) → p < n → same i (f p).id ≡ true → lookup i (tab n f) ≡ some (f p).log
+    pub lookup_at : (n p : ℕ) (f : ℕ → Held L) → ((j : ℕ) → j < p → before (f j).id i ≡ true) → p < n → same i (f p).id ≡ true → lookup i (tab n f) ≡ Some (f p).log
     unfolding lookup tab
     lookup_at zero p f low h e = absurd (omega arith)
     lookup_at (suc n) zero f low h e = rw e
     lookup_at (suc n) (suc p) f low h e =
         rw (not_same_back (f 0).id i (low 0 (omega arith))) (lookup_at n p (λ j. f (suc j)) (λ j k. low (suc j) (omega arith)) (omega arith) e)
 
-    pub place_at : (n p : ℕ) (f : ℕ → Held L) → ((j : ℕ) → j < p → before (f j).id i ≡ true) → p < n → same i (f p).id ≡ true → place_of i (tab n f) ≡ some p
+    pub place_at : (n p : ℕ) (f : ℕ → Held L) → ((j : ℕ) → j < p → before (f j).id i ≡ true) → p < n → same i (f p).id ≡ true → place_of i (tab n f) ≡ Some p
     unfolding place_of tab
     place_at zero p f low h e = absurd (omega arith)
     place_at (suc n) zero f low h e = rw e
     place_at (suc n) (suc p) f low h e =
-        rw (not_same_back (f 0).id i (low 0 (omega arith))) (ap (map suc) (place_at n p (λ j. f (suc j)) (λ j k. low (suc j) (omega arith)) (omega arith) e))
+        rw (not_same_back (f 0).id i (low 0 (omega arith))) (ap (option_map suc) (place_at n p (λ j. f (suc j)) (λ j k. low (suc j) (omega arith)) (omega arith) e))
 
     pub put_at : (v : L) (n p : ℕ) (f : ℕ → Held L) → ((j : ℕ) → j < p → before (f j).id i ≡ true) → p < n → before i (f p).id ≡ false → same i (f p).id ≡ true
         → put i v (tab n f) ≡ set (tab n f) p (held i v)
@@ -118,12 +118,12 @@ module _ {L : Type 0} where
         rw (not_after (f 0).id i (low 0 (omega arith)), not_same_back (f 0).id i (low 0 (omega arith)))
         (ap (λ (m : List (Held L)). f 0 ∷ m) (put_between v n p (λ j. f (suc j)) (λ j k. low (suc j) (omega arith)) (omega arith) (λ k. e (omega arith))))
 
-    pub lookup_none : (n : ℕ) (f : ℕ → Held L) → ((j : ℕ) → j < n → same i (f j).id ≡ false) → lookup i (tab n f) ≡ none
+    pub lookup_none : (n : ℕ) (f : ℕ → Held L) → ((j : ℕ) → j < n → same i (f j).id ≡ false) → lookup i (tab n f) ≡ None
     unfolding lookup tab
     lookup_none zero f h = refl
     lookup_none (suc n) f h = rw (h 0 (omega arith)) (lookup_none n (λ j. f (suc j)) (λ j l. h (suc j) (omega arith)))
 
-    pub place_none : (n : ℕ) (f : ℕ → Held L) → ((j : ℕ) → j < n → same i (f j).id ≡ false) → place_of i (tab n f) ≡ none
+    pub place_none : (n : ℕ) (f : ℕ → Held L) → ((j : ℕ) → j < n → same i (f j).id ≡ false) → place_of i (tab n f) ≡ None
     unfolding place_of tab
     place_none zero f h = refl
-    place_none (suc n) f h = rw (h 0 (omega arith)) (ap (map suc) (place_none n (λ j. f (suc j)) (λ j l. h (suc j) (omega arith))))
+    place_none (suc n) f h = rw (h 0 (omega arith)) (ap (option_map suc) (place_none n (λ j. f (suc j)) (λ j l. h (suc j) (omega arith))))

@@ -1,11 +1,10 @@
 -- The state on the declared types: what stands at a place, a fresh state, and what each change leaves. What is not said stays.
 -- Entry place q of replica place p is entries[64 * p + q], its command's bytes store[4096 * p + 64 * q ..].
 -- Assumes nothing.
-use Rattle.std.specs.Prelude.{cond, List, ◌∷◌, ◌++◌, ℕ, ◌+◌, ◌-◌, ◌*◌, ltb, get_or, set, replicate}
+use Rattle.std.specs.Prelude.{cond, List, ◌∷◌, ◌++◌, ℕ, ◌+◌, ◌-◌, ◌*◌, ltb, get_or, set, replicate, None, Some}
 use Rattle.ids.specs.declared.Lsn.{Lsn}
 use Rattle.store.specs.Splice.{part, splice}
 use Rattle.store.specs.Zeros.{zeros}
-use Rattle.view.specs.declared.MaybeLsn.TheVariants as L
 use Rattle.view.specs.declared.Header.{Header}
 use Rattle.view.specs.declared.RecoveredRaftLogEntry.{RecoveredRaftLogEntry}
 use Rattle.view.specs.Tab.{tab}
@@ -25,7 +24,7 @@ fresh_storage =
       heads = replicate 8 no_header;
       entries = replicate 512 no_entry;
       held = 0;
-      scan = record { scanned_records = 0; last_scanned_lsn = L.None };
+      scan = record { scanned_records = 0; last_scanned_lsn = None };
     }
 
 -- The header, the entries and the bytes at replica place p.
@@ -40,7 +39,7 @@ bytes_in st p = part (4096 * p) 4096 st
 
 -- A record at LSN l was scanned.
 abbrev pub scan_next : Scan → Lsn → Scan
-scan_next n l = record { scanned_records = n.scanned_records + 1; last_scanned_lsn = L.Some l }
+scan_next n l = record { scanned_records = n.scanned_records + 1; last_scanned_lsn = Some l }
 
 -- Another header at p, other entries, another scan.
 abbrev pub with_head : RecoveredRaftStorage → ℕ → Header → List RecoveredRaftLogEntry → Scan → RecoveredRaftStorage

@@ -1,28 +1,28 @@
 // What is recovered of every replica: its log in place, its command bytes in a store that is lent beside it.
 #![tactic(auto)]
 
-ghost use Rattle.std.specs.Prelude.{◌≡◌, ◌≤◌};
+ghost use Rattle.std.specs.Prelude.{◌≡◌, ◌≤◌, not};
+ghost use Rattle.std.specs.List.{position_from};
+ghost use Rattle.definition.specs.Records.{before};
 ghost use Rattle.storage.specs.Model.{no_header, fresh_storage};
 ghost use Rattle.storage.specs.Place.{owners_of, stands_at};
-ghost use Rattle.storage.specs.Finding.{found_in};
+ghost use Rattle.storage.specs.Finding.{found_at};
 ghost use Rattle.ids.specs.Identity.{identity_of};
-ghost use Rattle.view.specs.Meaning.{no_entry};
+ghost use Rattle.view.specs.Meaning.{no_entry, id_of};
 
-use codec::{MaybeHardState, MaybePointer};
-use frontier::RaftProgress;
 use ids::{Lsn, RaftGroupId, RaftReplicaIdentity, ReplicaId};
-use view::{EntryPayload, Header, MaybeLsn, RecoveredRaftLogEntry};
+use view::{EntryPayload, Header, RecoveredRaftLogEntry};
 
 // How many records were scanned, and the last one's LSN.
-#[derive(Clone, Copy)]
+#[derive(Clone, Copy, Debug, PartialEq, Eq)]
 pub struct Scan {
     pub scanned_records: u64,
-    pub last_scanned_lsn: MaybeLsn,
+    pub last_scanned_lsn: Option<Lsn>,
 }
 
 // The replicas held, in places that ascend by identity. Entry place q of replica place p is entries[64 * p + q]; its command's
 // bytes are store[4096 * p + 64 * q ..].
-#[derive(Clone, Copy)]
+#[derive(Clone, Copy, Debug, PartialEq, Eq)]
 pub struct RecoveredRaftStorage {
     pub heads: [Header; 8],
     pub entries: [RecoveredRaftLogEntry; 512],
@@ -34,28 +34,10 @@ pub struct RecoveredRaftStorage {
 fn no_header() -> Header
     ensures { result ≡ no_header }
 {
-    let identity = RaftReplicaIdentity {
+    Header::new(RaftReplicaIdentity {
         raft_group_id: RaftGroupId(0),
         replica_id: ReplicaId(0),
-    };
-    let progress = RaftProgress {
-        truncated_through_index: 0,
-        truncated_through_term: 0,
-        applied_index: 0,
-    };
-    Header {
-        identity,
-        len: 0,
-        snapshot_index: 0,
-        snapshot_term: 0,
-        committed_index: 0,
-        last_replayed_lsn: MaybeLsn::None,
-        hard_state: MaybeHardState::None,
-        hard_state_lsn: MaybeLsn::None,
-        snapshot: MaybePointer::None,
-        snapshot_pointer_lsn: MaybeLsn::None,
-        progress,
-    }
+    })
 }
 
 // The entry of a place where none stands.
@@ -69,78 +51,47 @@ fn no_entry() -> RecoveredRaftLogEntry
     }
 }
 
+// The first of the headers whose identity does not stand before another.
+fn first_not_before(heads: &[Header], identity: RaftReplicaIdentity) -> Option<usize>
+    ensures { result ≡ position_from (λ h. not (before (id_of h) (identity_of identity))) 0 heads.now }
+{
+    heads.iter().position(|head| identity <= head.identity)
+}
+
 impl RecoveredRaftStorage {
     // Nothing held, nothing scanned, every place blank.
     pub fn fresh() -> RecoveredRaftStorage
         ensures { result ≡ fresh_storage }
     {
-        let head = no_header();
-        let entry = no_entry();
-        let scan = Scan {
-            scanned_records: 0,
-            last_scanned_lsn: MaybeLsn::None,
-        };
         RecoveredRaftStorage {
-            heads: [head; 8],
-            entries: [entry; 512],
+            heads: [no_header(); 8],
+            entries: [no_entry(); 512],
             held: 0,
-            scan,
+            scan: Scan {
+                scanned_records: 0,
+                last_scanned_lsn: None,
+            },
         }
     }
-}
 
-// Where a replica is held, or the place that would be opened for it.
-#[derive(Clone, Copy)]
-pub enum Found {
-    At(usize),
-    Missing(usize),
-}
-
-// The identities of the eight places.
-pub fn identities(heads: [Header; 8]) -> [RaftReplicaIdentity; 8]
-    ensures { result ≡ owners_of heads }
-{
-    let first = heads[0];
-    let filler = first.identity;
-    let mut own = [filler; 8];
-    let mut p: usize = 0;
-    while p < 8 {
-        let head = heads[p];
-        let identity = head.identity;
-        own[p] = identity;
-        p = p + 1;
+    // How many of the replicas held stand before an identity, up to the first that does not.
+    fn stands_at(&self, identity: RaftReplicaIdentity) -> usize
+        requires { self.now.held ≤ 8 }
+        ensures { result ≡ stands_at (identity_of identity) self.now.held (owners_of self.now.heads) }
+    {
+        first_not_before(&self.heads[..self.held], identity).unwrap_or(self.held)
     }
-    own
-}
 
-// How many of the held replicas stand before an identity.
-fn stands_at(own: [RaftReplicaIdentity; 8], held: usize, identity: RaftReplicaIdentity) -> usize
-    requires { held ≤ 8 }
-    ensures { result ≡ stands_at (identity_of identity) held own }
-{
-    let mut p: usize = 0;
-    while p < held {
-        let at = own[p];
-        if !ids::precedes(at, identity) {
-            return p;
+    // Where an identity stands among the replicas held or, as the error, where it would be opened: the first place that it does
+    // not follow.
+    pub fn find(&self, identity: RaftReplicaIdentity) -> Result<usize, usize>
+        requires { self.now.held ≤ 8 }
+        ensures { result ≡ found_at self.now (identity_of identity) }
+    {
+        let p = self.stands_at(identity);
+        if p < self.held && self.heads[p].identity == identity {
+            return Ok(p);
         }
-        p = p + 1;
+        Err(p)
     }
-    p
-}
-
-// The place of an identity among the held ones: the first of them that it does not follow.
-pub fn find(own: [RaftReplicaIdentity; 8], held: usize, identity: RaftReplicaIdentity) -> Found
-    requires { held ≤ 8 }
-    ensures { result ≡ found_in own held (identity_of identity) }
-{
-    let p = stands_at(own, held, identity);
-    if held <= p {
-        return Found::Missing(p);
-    }
-    let at = own[p];
-    if ids::same_identity(identity, at) {
-        return Found::At(p);
-    }
-    Found::Missing(p)
 }
