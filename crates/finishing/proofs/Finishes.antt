@@ -2,18 +2,14 @@
 -- Assumes nothing.
 use mathlib.Core.Path.{◌≡◌, sym, ap, ◌∙◌}
 use mathlib.Core.Bool.{Bool, true, false, cond, true≢false}
-use mathlib.Core.List.{List, ◌∷◌}
-use Prim.Native.Nat.{ℕ, ◌+◌, ◌-◌, ◌<◌, ◌≤◌, max}
+use mathlib.Core.List.{List}
+use Prim.Native.Nat.{ℕ, ◌+◌, ◌<◌, ◌≤◌}
 use native.Mathlib.Omega.{arith}
-use lib.ListN.{length, get_or, take}
+use lib.ListN.{length}
 use Rattle.definition.specs.Log as D
 use Rattle.definition.specs.Recovery.{out}
-use Rattle.store.specs.Splice.{part}
-use Rattle.store.proofs.Part.{length_part, get_d_part, part_cons}
 use Rattle.view.specs.declared.Header.{Header}
-use Rattle.view.specs.declared.RecoveredRaftLogEntry.{RecoveredRaftLogEntry}
-use Rattle.view.specs.Meaning.{no_entry}
-use Rattle.view.specs.Model.{largest_of, maximum_term, finished}
+use Rattle.view.specs.Model.{maximum_term, finished}
 use Rattle.storage.specs.declared.RecoveredRaftStorage.{RecoveredRaftStorage}
 use Rattle.finishing.specs.declared.Finished.{Finished}
 use Rattle.storage.specs.Model.{head_at, entries_in, headed, finished_head, finished_to, finished_storage}
@@ -23,35 +19,6 @@ use Rattle.finishing.specs.Finishes.{finished_done, unsound_done, Finishes}
 use Rattle.storage.proofs.Finish.{finish_none, finish_one, finish_next}
 use Rattle.soundness.proofs.Sound.{test_linked, test_state, test_sound}
 use Rattle.routing.proofs.Observe.{unsound_finished, finished_is, finished_test}
-
--- The largest term so far, m, and those from place q on, of n.
-abbrev pub largest_left : ℕ → List RecoveredRaftLogEntry → ℕ → ℕ → ℕ
-largest_left n es m q = max m (largest_of (part q (n - q) es))
-
-pub largest_begin : (n : ℕ) (es : List RecoveredRaftLogEntry) (m : ℕ) → max m (largest_of (take n es)) ≡ largest_left n es m 0
-largest_begin n es m = let k : n ≡ n - 0 = omega arith in ap (λ (i : ℕ). max m (largest_of (take i es))) k
-
-pub largest_turn : (n : ℕ) (d : List RecoveredRaftLogEntry) (a m q x : ℕ) → q < n → n ≤ 64 → a + 64 ≤ length d
-    → x ≡ max m (get_or d (a + q) no_entry).term → largest_left n (part a 64 d) m q ≡ largest_left n (part a 64 d) x (q + 1)
-largest_turn n d a m q x l b w e =
-    let k : n - q ≡ (n - (q + 1)) + 1 = omega arith in
-    let z : length (part a 64 d) ≡ 64 = length_part a 64 d w in
-    let c : part q (n - q) (part a 64 d) ≡ get_or (part a 64 d) q no_entry ∷ part (q + 1) (n - (q + 1)) (part a 64 d) =
-    ap (λ (i : ℕ). part q i (part a 64 d)) k ∙ part_cons q (n - (q + 1)) (part a 64 d) no_entry (omega arith) in
-    let t : (get_or (part a 64 d) q no_entry).term ≡ (get_or d (a + q) no_entry).term = ap (λ (v : RecoveredRaftLogEntry). v.term) (get_d_part a 64 d q no_entry (omega arith)) in
-    ap (λ (l' : List RecoveredRaftLogEntry). max m (largest_of l')) c
-    ∙ ap (λ (i : ℕ). max m (max i (largest_of (part (q + 1) (n - (q + 1)) (part a 64 d))))) t
-    ∙ max_swap m (get_or d (a + q) no_entry).term (largest_of (part (q + 1) (n - (q + 1)) (part a 64 d)))
-    ∙ ap (λ (i : ℕ). max i (largest_of (part (q + 1) (n - (q + 1)) (part a 64 d)))) (sym e)
-  where
-    max_swap : (i j k : ℕ) → max i (max j k) ≡ max (max i j) k
-    max_swap i j k = omega arith
-
-pub largest_end : (n : ℕ) (es : List RecoveredRaftLogEntry) (m q : ℕ) → n ≤ q → largest_left n es m q ≡ m
-largest_end n es m q l =
-    let k : n - q ≡ 0 = omega arith in
-    let o : max m 0 ≡ m = omega arith in
-    ap (λ (i : ℕ). max m (largest_of (part q i es))) k ∙ o
 
 -- One more replica is finished.
 pub finish_turn : (s t : RecoveredRaftStorage) (j m : ℕ) (h : Header) → j < 8 → t ≡ finished_to j s → m ≡ maximum_term (head_at t j) (entries_in t j) → h ≡ finished (head_at t j) m
@@ -73,21 +40,13 @@ pub record Finishing (s t : RecoveredRaftStorage) (j : ℕ) : Type 0 where
 pub finishing_start : (s : RecoveredRaftStorage) → length s.heads ≡ 8 → Limits s → Finishing s s 0
 finishing_start s l k = record { limits = k; done = sym (finish_none s l) }
 
-pub finishing_short : (s t : RecoveredRaftStorage) (j : ℕ) → Finishing s t j → j < t.held → j < 8 → (head_at t j).len ≤ 64
-finishing_short s t j f l l' =
-    let h : t.held ≡ s.held = ap (λ (x : RecoveredRaftStorage). x.held) f.done in
-    let e : (head_at t j).len ≡ (head_at s j).len = ap (λ (x : RecoveredRaftStorage). (head_at x j).len) f.done ∙ ap (λ (x : Header). x.len) (finish_next s j l') in
-    let b : (head_at s j).len ≤ 64 = f.limits.short j (omega (arith, l, h)) in
-    omega (arith, e, b)
-
 pub finishing_turn : (s t : RecoveredRaftStorage) (j m : ℕ) (h : Header) → j < 8 → Finishing s t j → m ≡ maximum_term (head_at t j) (entries_in t j) → h ≡ finished (head_at t j) m
     → Finishing s (headed t j h t.scan) (j + 1)
 finishing_turn s t j m h l f em eh = record { limits = f.limits; done = finish_turn s t j m h l f.done em eh }
 
-pub finishing_end : (s t : RecoveredRaftStorage) (j : ℕ) → Finishing s t j → j ≤ t.held → t.held ≤ j → t ≡ finished_storage s
+pub finishing_end : (s t : RecoveredRaftStorage) (j : ℕ) → Finishing s t j → j ≤ s.held → s.held ≤ j → t ≡ finished_storage s
 finishing_end s t j f l l' =
-    let h : t.held ≡ s.held = ap (λ (x : RecoveredRaftStorage). x.held) f.done in
-    let e : j ≡ s.held = omega (arith, h, l, l') in
+    let e : j ≡ s.held = omega arith in
     f.done ∙ ap (λ (i : ℕ). finished_to i s) e
 
 -- The answer and the state, where state and store are sound and where they are not.

@@ -1,11 +1,10 @@
 -- What finishing answers and leaves.
 -- Assumes nothing.
-use Rattle.std.specs.Prelude.{◌≡◌, true, false, cond, List, ℕ}
+use Rattle.std.specs.Prelude.{◌≡◌, true, false, cond, List, ℕ, Ok, Err}
 use Rattle.definition.specs.Log as D
 use Rattle.definition.specs.Recovery.{out, sound, finish}
 use Rattle.ids.specs.declared.Refusal.TheVariants as R
 use Rattle.storage.specs.declared.RecoveredRaftStorage.{RecoveredRaftStorage}
-use Rattle.finishing.specs.declared.FinishAnswer.TheVariants as F
 use Rattle.finishing.specs.declared.Finished.{Finished}
 use Rattle.storage.specs.Model.{finished_storage}
 use Rattle.storage.specs.Meaning.{recovery_of}
@@ -13,11 +12,11 @@ use Rattle.soundness.specs.Sound.{sound_test}
 
 -- Every held replica is finished.
 abbrev pub finished_done : RecoveredRaftStorage → Finished
-finished_done s = record { answer = F.Finished; state = finished_storage s }
+finished_done s = record { answer = (Ok tt); state = finished_storage s }
 
 -- 1: what is not sound stays as it is.
 abbrev pub unsound_done : RecoveredRaftStorage → Finished
-unsound_done s = record { answer = F.Refused R.Unsound; state = s }
+unsound_done s = record { answer = Err R.Unsound; state = s }
 
 pub record Finishes (s : RecoveredRaftStorage) (st : List ℕ) (d : Finished) : Type 0 where
   pub model : d ≡ cond (sound_test s st) (finished_done s) (unsound_done s)
@@ -25,7 +24,7 @@ pub record Finishes (s : RecoveredRaftStorage) (st : List ℕ) (d : Finished) : 
   pub means : sound_test s st ≡ true → finish (recovery_of s st) ≡ out D.finished (recovery_of d.state st)
   pub stays : sound_test s st ≡ true → sound_test d.state st ≡ true
   -- where they are not: refused, and nothing changed
-  pub refused : sound_test s st ≡ false → d.answer ≡ F.Refused R.Unsound
+  pub refused : sound_test s st ≡ false → d.answer ≡ Err R.Unsound
   pub kept : sound_test s st ≡ false → d.state ≡ s
   -- what means no sound state is among these: the definition refuses it by 1
   pub unsound : sound (recovery_of s st) ≡ false → finish (recovery_of s st) ≡ out (D.refused 1) (recovery_of d.state st)

@@ -1,8 +1,8 @@
 -- What a turn settles, by the kind of its record.
 -- Assumes nothing.
+use Rattle.std.specs.Prelude.{None, Some, Result, Ok, Err}
 use mathlib.Core.Path.{◌≡◌, refl, sym, ap, subst, ◌∙◌}
 use mathlib.Core.List.{List}
-use mathlib.Core.Option.{none, some}
 use Prim.Native.Nat.{ℕ, ◌+◌, ◌-◌, ◌*◌, ◌<◌, ◌≤◌}
 use native.Mathlib.Omega.{arith}
 use lib.ListN.{length, get_or, take, drop}
@@ -34,52 +34,52 @@ use Rattle.routing.specs.Observe.{written, plan_at, settled_at}
 use Rattle.recovery.proofs.Turn.{block_is}
 
 -- An entry, decided and written: another header is the plan's where it has the plan's number of entries.
-module _ (h : Header) (e b : RecoveredRaftLogEntry) (k : RaftWalRecord) (r : RaftLogEntryRecord) (ek : k ≡ W.Entry r) (l : Lsn) (cs lent : List ℕ) (o : RaftLogReplayOutcome)
+module _ (h : Header) (e b : RecoveredRaftLogEntry) (k : RaftWalRecord) (r : RaftLogEntryRecord) (ek : k ≡ W.Entry r) (l : Lsn) (cs lent : List ℕ) (o : Result RaftLogReplayOutcome Refusal)
     (eo : outcome_of o ≡ decided h e b r cs lent) where
-  pub entry_refuses : (why : Refusal) → o ≡ A.Refused why → plan_of h e b k l cs lent ≡ as_it_was (D.refused (number_of why)) h e cs
+  pub entry_refuses : (why : Refusal) → o ≡ Err why → plan_of h e b k l cs lent ≡ as_it_was (D.refused (number_of why)) h e cs
   entry_refuses why ew =
       ap (λ (x : RaftWalRecord). plan_of h e b x l cs lent) ek ∙ ap (λ (a : D.Answer). entry_plan a h e r l cs lent) (sym eo ∙ ap outcome_of ew)
 
   pub entry_planned : (d : Change) (ys : List ℕ) (n : ℕ) (h' : Header) → planned d ys ≡ entry_plan (outcome_of o) h e r l cs lent
-      → ((w : Refusal) → o ≡ A.Refused w → ⊥) → n ≡ len_after (outcome_of o) h r.index → h' ≡ with_entry h n l
+      → ((w : Refusal) → o ≡ Err w → ⊥) → n ≡ len_after (outcome_of o) h r.index → h' ≡ with_entry h n l
       → planned (record { answer = d.answer; head = h'; entry = d.entry; dropped = d.dropped }) ys ≡ plan_of h e b k l cs lent
   entry_planned d ys n h' ed kept en eh =
       let head : h' ≡ d.head = eh ∙ ap (λ (m : ℕ). with_entry h m l) en ∙ same o kept ∙ ap (λ (x : Plan). x.head) (sym ed) in
       ap (λ (x : Header). planned (record { answer = d.answer; head = x; entry = d.entry; dropped = d.dropped }) ys) head
       ∙ ed ∙ ap (λ (a : D.Answer). entry_plan a h e r l cs lent) eo ∙ ap (λ (x : RaftWalRecord). plan_of h e b x l cs lent) (sym ek)
     where
-      same : (o : RaftLogReplayOutcome) → ((w : Refusal) → o ≡ A.Refused w → ⊥)
+      same : (o : Result RaftLogReplayOutcome Refusal) → ((w : Refusal) → o ≡ Err w → ⊥)
           → with_entry h (len_after (outcome_of o) h r.index) l ≡ (entry_plan (outcome_of o) h e r l cs lent).head
-      same A.Appended k = refl
-      same A.IdempotentReplay k = refl
-      same (A.ReplacedSuffix m) k = refl
-      same (A.Refused w) k = absurd (k w refl)
+      same (Ok A.Appended) k = refl
+      same (Ok A.IdempotentReplay) k = refl
+      same (Ok (A.ReplacedSuffix m)) k = refl
+      same (Err w) k = absurd (k w refl)
 
 -- It is no refusal, and drops nothing.
-pub entry_accepted : (o : RaftLogReplayOutcome) (d : Change) (ys : List ℕ) (h : Header) (e : RecoveredRaftLogEntry) (r : RaftLogEntryRecord) (l : Lsn) (cs lent : List ℕ)
-    → planned d ys ≡ entry_plan (outcome_of o) h e r l cs lent → ((w : Refusal) → o ≡ A.Refused w → ⊥) → refusal_of (answer_of d.answer) ≡ none
-entry_accepted A.Appended d ys h e r l cs lent ed k = ap (λ (x : Plan). refusal_of x.answer) ed
-entry_accepted A.IdempotentReplay d ys h e r l cs lent ed k = ap (λ (x : Plan). refusal_of x.answer) ed
-entry_accepted (A.ReplacedSuffix m) d ys h e r l cs lent ed k = ap (λ (x : Plan). refusal_of x.answer) ed
-entry_accepted (A.Refused w) d ys h e r l cs lent ed k = absurd (k w refl)
+pub entry_accepted : (o : Result RaftLogReplayOutcome Refusal) (d : Change) (ys : List ℕ) (h : Header) (e : RecoveredRaftLogEntry) (r : RaftLogEntryRecord) (l : Lsn) (cs lent : List ℕ)
+    → planned d ys ≡ entry_plan (outcome_of o) h e r l cs lent → ((w : Refusal) → o ≡ Err w → ⊥) → refusal_of (answer_of d.answer) ≡ None
+entry_accepted (Ok A.Appended) d ys h e r l cs lent ed k = ap (λ (x : Plan). refusal_of x.answer) ed
+entry_accepted (Ok A.IdempotentReplay) d ys h e r l cs lent ed k = ap (λ (x : Plan). refusal_of x.answer) ed
+entry_accepted (Ok (A.ReplacedSuffix m)) d ys h e r l cs lent ed k = ap (λ (x : Plan). refusal_of x.answer) ed
+entry_accepted (Err w) d ys h e r l cs lent ed k = absurd (k w refl)
 
-pub entry_drops : (o : RaftLogReplayOutcome) (d : Change) (ys : List ℕ) (h : Header) (e : RecoveredRaftLogEntry) (r : RaftLogEntryRecord) (l : Lsn) (cs lent : List ℕ)
+pub entry_drops : (o : Result RaftLogReplayOutcome Refusal) (d : Change) (ys : List ℕ) (h : Header) (e : RecoveredRaftLogEntry) (r : RaftLogEntryRecord) (l : Lsn) (cs lent : List ℕ)
     → planned d ys ≡ entry_plan (outcome_of o) h e r l cs lent → d.dropped ≤ 0
 entry_drops o d ys h e r l cs lent ed =
     let z : d.dropped ≡ 0 = ap (λ (x : Plan). x.dropped) ed ∙ none_goes o in omega arith
   where
-    none_goes : (o : RaftLogReplayOutcome) → (entry_plan (outcome_of o) h e r l cs lent).dropped ≡ 0
-    none_goes A.Appended = refl
-    none_goes A.IdempotentReplay = refl
-    none_goes (A.ReplacedSuffix m) = refl
-    none_goes (A.Refused w) = refl
+    none_goes : (o : Result RaftLogReplayOutcome Refusal) → (entry_plan (outcome_of o) h e r l cs lent).dropped ≡ 0
+    none_goes (Ok A.Appended) = refl
+    none_goes (Ok A.IdempotentReplay) = refl
+    none_goes (Ok (A.ReplacedSuffix m)) = refl
+    none_goes (Err w) = refl
 
 -- A hard state, refused or kept.
 module _ (h : Header) (e b : RecoveredRaftLogEntry) (k : RaftWalRecord) (r : RaftHardStateRecord) (ek : k ≡ W.HardState r) (l : Lsn) (cs lent : List ℕ) where
-  pub hard_refuses : (n : ℕ) → first_of (hard_state_rows_of h r.hard_state) ≡ some n → plan_of h e b k l cs lent ≡ as_it_was (D.refused n) h e cs
+  pub hard_refuses : (n : ℕ) → first_of (hard_state_rows_of h r.hard_state) ≡ Some n → plan_of h e b k l cs lent ≡ as_it_was (D.refused n) h e cs
   hard_refuses n row = ap (λ (x : RaftWalRecord). plan_of h e b x l cs lent) ek ∙ rw row
 
-  pub hard_keeps : (h' : Header) → first_of (hard_state_rows_of h r.hard_state) ≡ none → h' ≡ with_hard_state h r.hard_state l
+  pub hard_keeps : (h' : Header) → first_of (hard_state_rows_of h r.hard_state) ≡ None → h' ≡ with_hard_state h r.hard_state l
       → plan_of h e b k l cs lent ≡ record { answer = D.kept; head = h'; entry = e; dropped = 0; bytes = cs }
   hard_keeps h' row eh = ap (λ (x : RaftWalRecord). plan_of h e b x l cs lent) ek ∙ rw (row, eh)
 
@@ -91,12 +91,6 @@ pointer_planned h e b k p l cs lent d ys ek ed = ed ∙ ap (λ (x : RaftWalRecor
 -- What an entry's decision asks.
 pub replayable_of : (h : Header) (e : RecoveredRaftLogEntry) (k : RaftWalRecord) (r : RaftLogEntryRecord) (cs lent : List ℕ) → k ≡ W.Entry r → Settleable h e k cs lent → Replayable h e r cs lent
 replayable_of h e k r cs lent ek s = subst (λ (x : RaftWalRecord). Settleable h e x cs lent) ek s
-
--- What a pointer's asks.
-pub installable_of : (h : Header) (e : RecoveredRaftLogEntry) (k : RaftWalRecord) (p : RaftSnapshotPointerRecord) (cs lent : List ℕ) → k ≡ W.SnapshotPointer p → Settleable h e k cs lent
-    → (length cs ≡ 4096) × (h.len ≤ 64)
-installable_of h e k p cs lent ek s =
-    let x = subst (λ (x : RaftWalRecord). Settleable h e x cs lent) ek s in (x.bytes, x.short)
 
 -- Written, where only the header changes, or nothing does.
 module _ (t : RecoveredRaftStorage) (u : List ℕ) (p : ℕ) (k : RaftWalRecord) (l : Lsn) (lent : List ℕ) (lt : p < 8) (size : length u ≡ 32768) (next : Scan) (en : next ≡ scan_next t.scan l) where

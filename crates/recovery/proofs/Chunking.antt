@@ -1,9 +1,9 @@
 -- The turns of observing a chunk: each keeps what the loop says, or ends it as the contract says.
 -- Assumes nothing.
+use Rattle.std.specs.Prelude.{None, Some, Err}
 use mathlib.Core.Path.{◌≡◌, refl, sym, ap, subst, ◌∙◌}
 use mathlib.Core.Bool.{Bool, true, false, cond}
 use mathlib.Core.List.{List}
-use mathlib.Core.Option.{none}
 use Prim.Native.Nat.{ℕ, ◌+◌, ◌<◌, ◌≤◌}
 use native.Mathlib.Omega.{arith}
 use borrow.Author.Tests.{ltb-true}
@@ -15,12 +15,10 @@ use Rattle.definition.specs.Records.{form_rows}
 use Rattle.definition.specs.Log as D
 use Rattle.definition.specs.Recovery.{out, observe, refusal_of}
 use Rattle.codec.specs.declared.RaftWalRecord.{RaftWalRecord}
-use Rattle.codec.specs.declared.RecordBody.TheVariants as B
 use Rattle.codec.specs.declared.WalRecord.{WalRecord}
 use Rattle.codec.specs.Records.{kind_of, owner_of, record_of}
 use Rattle.view.specs.Model.{empty_header}
 use Rattle.replay.specs.Plan.{identity_in}
-use Rattle.storage.specs.declared.Found.TheVariants as F
 use Rattle.storage.specs.declared.RecoveredRaftStorage.{RecoveredRaftStorage}
 use Rattle.storage.specs.Model.{opened, opened_store}
 use Rattle.storage.specs.Meaning.{recovery_of}
@@ -43,7 +41,7 @@ pub record Chunking (n : ℕ) (s : RecoveredRaftStorage) (st : List ℕ) (rs : L
   pub size : length st ≡ 32768
   pub count : length rs ≡ n
   pub running : Running s st rs lent t u a i
-  pub accepted : refusal_of a ≡ none
+  pub accepted : refusal_of a ≡ None
 
 pub chunk_start : (n : ℕ) (s : RecoveredRaftStorage) (st : List ℕ) (rs : List WalRecord) (lent : List ℕ) → length s.heads ≡ 8 → length s.entries ≡ 512 → sound_test s st ≡ true → length rs ≡ n
     → Chunking n s st rs lent s st D.counted 0
@@ -73,7 +71,7 @@ module _ (n : ℕ) (s : RecoveredRaftStorage) (st : List ℕ) (rs : List WalReco
       stays : Ready x.state x.store
       stays = subst (λ (y : Stepped). Ready y.state y.store) ex (stepped_ready t u r lent ready (fits_record r lent m))
 
-      pub chunk_takes : refusal_of x.answer ≡ none → Chunking n s st rs lent x.state x.store x.answer (i + 1)
+      pub chunk_takes : refusal_of x.answer ≡ None → Chunking n s st rs lent x.state x.store x.answer (i + 1)
       chunk_takes e =
           record {
             eight = k.eight;
@@ -90,8 +88,8 @@ module _ (n : ℕ) (s : RecoveredRaftStorage) (st : List ℕ) (rs : List WalReco
       chunk_refused w e d st' ed = running_refused s st rs lent t u a i k.running z r below er x ex told k.eight k.all k.sound w e stays d st' ed
 
     -- Its replica is not held, and a place was opened for it.
-    pub chunk_opened : first_of (scan_rows t.scan r.lsn) ≡ none → (w : RaftWalRecord) → r.body ≡ B.Raft w → first_of (form_rows (owner_of w) (kind_of w lent)) ≡ none
-        → (p : ℕ) → found_at t (owner_of w) ≡ F.Missing p → t.held < 8
+    pub chunk_opened : first_of (scan_rows t.scan r.lsn) ≡ None → (w : RaftWalRecord) → r.body ≡ Some w → first_of (form_rows (owner_of w) (kind_of w lent)) ≡ None
+        → (p : ℕ) → found_at t (owner_of w) ≡ Err p → t.held < 8
         → Chunking n s st rs lent (opened t p (empty_header (identity_in w))) (opened_store u p t.held) a i
     chunk_opened e w f g p y lt' =
         let o = opened_again t u r lent ready e w f g p y lt' in
@@ -112,7 +110,7 @@ module _ (n : ℕ) (s : RecoveredRaftStorage) (st : List ℕ) (rs : List WalReco
 
 -- What a read past the end of the records gives.
 abbrev pub no_record : WalRecord
-no_record = record { lsn = record { 0 = 0 }; body = B.Foreign }
+no_record = record { lsn = record { 0 = 0 }; body = None }
 
 -- At most 256, and the first n of the records.
 pub most_is : (n : ℕ) → at_most n ≤ 256

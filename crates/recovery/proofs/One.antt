@@ -1,9 +1,9 @@
 -- A chunk of one record is that record observed.
 -- Assumes nothing.
+use Rattle.std.specs.Prelude.{Option, None, Some}
 use mathlib.Core.Path.{◌≡◌, refl, sym, ap, ◌∙◌}
 use mathlib.Core.Bool.{Bool, true, false, cond}
 use mathlib.Core.List.{List, [], ◌∷◌}
-use mathlib.Core.Option.{Option, none, some}
 use Prim.Native.Nat.{ℕ}
 use Rattle.definition.specs.Records.{Record}
 use Rattle.definition.specs.Log as D
@@ -30,24 +30,24 @@ ran_one s st r lent = go (refusal_of (stepped s st r lent).answer)
   where
     go : (o : Option ℕ)
         → left_of (ran_by o (stepped s st r lent) (ran_from (stepped s st r lent).answer (stepped s st r lent).state (stepped s st r lent).store [] lent)) ≡ stepped s st r lent
-    go (some n) = refl
-    go none = refl
+    go (Some n) = refl
+    go None = refl
 
 last_one : (w : Recovery) (r : Record) → last_answer D.counted w (r ∷ []) ≡ (observe w r).answer
 unfolding last_answer
 last_one w r = go (refusal_of (observe w r).answer)
   where
     go : (o : Option ℕ) → last_by o (observe w r).answer (observe w r).answer ≡ (observe w r).answer
-    go (some n) = refl
-    go none = refl
+    go (Some n) = refl
+    go None = refl
 
 left_one : (w : Recovery) (r : Record) → (observe_until_refused w (r ∷ [])).left ≡ (observe w r).next
 unfolding observe_until_refused
 left_one w r = go (refusal_of (observe w r).answer) refl
   where
     go : (o : Option ℕ) → refusal_of (observe w r).answer ≡ o → (observe_until_refused w (r ∷ [])).left ≡ (observe w r).next
-    go (some n) e = rw (e, observe_until_refused)
-    go none e = rw (e, observe_until_refused)
+    go (Some n) e = rw (e, observe_until_refused)
+    go None e = rw (e, observe_until_refused)
 
 module _ (s : RecoveredRaftStorage) (st : List ℕ) (r : WalRecord) (lent : List ℕ) (d : ObservedChunk) (st' : List ℕ) (k : Runs s st (r ∷ []) lent d st') where
   model_is : left_of (ran_of d st') ≡ observed_of s st r lent

@@ -1,9 +1,9 @@
 -- What the contracts promise of a run of calls is the definition's run; so the claim on two recoveries speaks of the program.
 -- Assumes nothing.
+use Rattle.std.specs.Prelude.{Option, None, Some, Ok}
 use mathlib.Core.Path.{◌≡◌, refl, sym, ap, subst, ◌∙◌}
 use mathlib.Core.Bool.{Bool, true, cond}
 use mathlib.Core.List.{List, [], ◌∷◌, ◌++◌}
-use mathlib.Core.Option.{Option, none, some}
 use Prim.Native.Nat.{ℕ, ◌+◌, ◌<◌, ◌≤◌}
 use native.Mathlib.Omega.{arith}
 use lib.ListN.{length, take, length-append}
@@ -24,7 +24,6 @@ use Rattle.storage.specs.Meaning.{meaning, recovery_of}
 use Rattle.soundness.specs.Sound.{sound_test}
 use Rattle.soundness.proofs.Fresh.{fresh_recovery, fresh_test}
 use Rattle.finishing.specs.declared.Finished.{Finished}
-use Rattle.finishing.specs.declared.FinishAnswer.TheVariants as F
 use Rattle.finishing.specs.Finishes.{finished_done, unsound_done}
 use Rattle.routing.specs.Observe.{journal_of}
 use Rattle.recovery.specs.Program.{Call, one, chunk, Kept, chunk_records, records_of, answers_of, state_after_calls, store_after_calls, Recovers, ProgramAgrees}
@@ -35,16 +34,16 @@ scanned w = w.state.scanned_records
 
 guarded_scanned : (o : Option ℕ) (s : State) (lsn : ℕ) (c : Content) → (guarded o s lsn c).next.scanned_records ≤ s.scanned_records + 1
 unfolding guarded
-guarded_scanned (some n) s lsn c = omega arith
-guarded_scanned none s lsn c = let e : (routed s lsn c).next.scanned_records ≡ s.scanned_records + 1 = routed_scanned s lsn c in omega arith
+guarded_scanned (Some n) s lsn c = omega arith
+guarded_scanned None s lsn c = let e : (routed s lsn c).next.scanned_records ≡ s.scanned_records + 1 = routed_scanned s lsn c in omega arith
 
 observe_scanned : (w : Recovery) (r : Record) → scanned (observe w r).next ≤ scanned w + 1
 unfolding observe with_store stored observe_state
 observe_scanned w r = go (first_of (unsound_store w ∷ [])) refl
   where
     go : (o : Option ℕ) → first_of (unsound_store w ∷ []) ≡ o → scanned (observe w r).next ≤ scanned w + 1
-    go (some n) e = rw (e, with_store) (omega arith)
-    go none e = rw (e, with_store) (guarded_scanned (first_of (unsound_state w.state ∷ non_increasing_wal_lsn w.state r.lsn ∷ [])) w.state r.lsn (content r))
+    go (Some n) e = rw (e, with_store) (omega arith)
+    go None e = rw (e, with_store) (guarded_scanned (first_of (unsound_state w.state ∷ non_increasing_wal_lsn w.state r.lsn ∷ [])) w.state r.lsn (content r))
 
 observed_scanned : (w : Recovery) (rs : List Record) → scanned (observed w rs) ≤ scanned w + length rs
 unfolding observed
@@ -119,7 +118,7 @@ module _ (cs : List Call) (d : Finished) (k : Recovers cs d) (few : length (reco
   done : finish (observed fresh (records_of cs)) ≡ out D.finished (recovery_of d.state st)
   done = ap finish (ap (λ (w : Recovery). observed w (records_of cs)) (sym fresh_recovery) ∙ sym run.left) ∙ k.finishes.means run.sound
 
-  finished_is : d.answer ≡ F.Finished
+  finished_is : d.answer ≡ (Ok tt)
   finished_is =
       ap (λ (x : Finished). x.answer) k.finishes.model ∙ ap (λ (b : Bool). (cond b (finished_done s) (unsound_done s)).answer) run.sound
 

@@ -1,9 +1,9 @@
 -- A chunk, record by record: what is asked of the whole is what is asked of the rest.
 -- Assumes nothing.
+use Rattle.std.specs.Prelude.{Option, None, Some}
 use mathlib.Core.Path.{◌≡◌, refl, sym, ap, ◌∙◌}
 use mathlib.Core.Bool.{true, false, true≢false}
 use mathlib.Core.List.{List, [], ◌∷◌}
-use mathlib.Core.Option.{Option, none, some}
 use Prim.Native.Nat.{ℕ, suc, ◌+◌, ◌<◌, ◌≤◌}
 use native.Mathlib.Omega.{arith}
 use native.Mathlib.Numerals.{add-one}
@@ -33,14 +33,14 @@ later_chunk i x = record { taken = i + x.taken; ended = x.ended; left = x.left }
 
 -- One record, by the definition's answer to it.
 abbrev chunk_by : Option ℕ → Recovery → Chunk → Chunk
-chunk_by (some n) next rest = record { taken = 0; ended = some n; left = next }
-chunk_by none next rest = one_more rest
+chunk_by (Some n) next rest = record { taken = 0; ended = Some n; left = next }
+chunk_by None next rest = one_more rest
 
 chunk_step : (w : Recovery) (r : Record) (rs : List Record) (o : Option ℕ) → refusal_of (observe w r).answer ≡ o
     → observe_until_refused w (r ∷ rs) ≡ chunk_by o (observe w r).next (observe_until_refused (observe w r).next rs)
 unfolding observe_until_refused
-chunk_step w r rs (some n) e = rw (e, observe_until_refused)
-chunk_step w r rs none e = rw (e, observe_until_refused)
+chunk_step w r rs (Some n) e = rw (e, observe_until_refused)
+chunk_step w r rs None e = rw (e, observe_until_refused)
 
 last_step : (a : D.Answer) (w : Recovery) (r : Record) (rs : List Record)
     → last_answer a w (r ∷ rs) ≡ last_by (refusal_of (observe w r).answer) (observe w r).answer (last_answer (observe w r).answer (observe w r).next rs)
@@ -131,14 +131,14 @@ module _ (s : RecoveredRaftStorage) (st : List ℕ) (rs : List WalRecord) (lent 
           ∙ ap (λ (y : Out Recovery). last_by (refusal_of y.answer) y.answer (last_answer y.answer y.next more)) eo
 
       -- It is taken.
-      pub running_takes : refusal_of x.answer ≡ none → Ready x.state x.store → Running x.state x.store x.answer (i + 1)
+      pub running_takes : refusal_of x.answer ≡ None → Ready x.state x.store → Running x.state x.store x.answer (i + 1)
       running_takes e ready =
           record {
             within = omega arith;
             ready = ready;
             model = k.model ∙ ap (later i) (ran_is ∙ ap (λ (o : Option ℕ). ran_by o x (ran_from x.answer x.state x.store rest lent)) e)
                 ∙ ap (λ (n : ℕ). record { taken = n; answer = (ran_from x.answer x.state x.store rest lent).answer; state = (ran_from x.answer x.state x.store rest lent).state; store = (ran_from x.answer x.state x.store rest lent).store }) (one_past (ran_from x.answer x.state x.store rest lent).taken);
-            chunk = k.chunk ∙ ap (later_chunk i) (chunk_is none e)
+            chunk = k.chunk ∙ ap (later_chunk i) (chunk_is None e)
                 ∙ ap (λ (n : ℕ). record { taken = n; ended = (observe_until_refused (recovery_of x.state x.store) more).ended; left = (observe_until_refused (recovery_of x.state x.store) more).left }) (one_past (observe_until_refused (recovery_of x.state x.store) more).taken);
             last = k.last ∙ last_is ∙ ap (λ (o : Option ℕ). last_by o x.answer (last_answer x.answer (recovery_of x.state x.store) more)) e;
           }
@@ -150,11 +150,11 @@ module _ (s : RecoveredRaftStorage) (st : List ℕ) (rs : List WalRecord) (lent 
       pub running_refused : length s.heads ≡ 8 → length s.entries ≡ 512 → sound_test s st ≡ true → (n : ℕ) → x.answer ≡ D.refused n → Ready x.state x.store
           → (d : ObservedChunk) (st' : List ℕ) → ran_of d st' ≡ record { taken = i; answer = x.answer; state = x.state; store = x.store } → Runs s st rs lent d st'
       running_refused eight all f n e ready d st' ed =
-          let q : refusal_of x.answer ≡ some n = ap refusal_of e in
+          let q : refusal_of x.answer ≡ Some n = ap refusal_of e in
           ends eight all f (record { taken = i; answer = x.answer; state = x.state; store = x.store }) d st'
           (k.model ∙ ap (later i) (ran_is ∙ ap (λ (o : Option ℕ). ran_by o x (ran_from x.answer x.state x.store rest lent)) q)
           ∙ ap (λ (m : ℕ). record { taken = m; answer = x.answer; state = x.state; store = x.store }) (add-zero i))
-          (k.chunk ∙ ap (later_chunk i) (chunk_is (some n) q)
+          (k.chunk ∙ ap (later_chunk i) (chunk_is (Some n) q)
           ∙ λ j. record { taken = add-zero i j; ended = sym q j; left = recovery_of x.state x.store })
           (k.last ∙ last_is ∙ ap (λ (o : Option ℕ). last_by o x.answer (last_answer x.answer (recovery_of x.state x.store) more)) q)
           ready ed
@@ -191,7 +191,7 @@ module _ (s : RecoveredRaftStorage) (st : List ℕ) (rs : List WalRecord) (lent 
 
   -- All were taken.
   pub running_end : length s.heads ≡ 8 → length s.entries ≡ 512 → sound_test s st ≡ true → (t : RecoveredRaftStorage) (u : List ℕ) (a : D.Answer) (i : ℕ) → Running t u a i → length rs ≤ i
-      → refusal_of a ≡ none → (d : ObservedChunk) (st' : List ℕ) → ran_of d st' ≡ record { taken = i; answer = a; state = t; store = u } → Runs s st rs lent d st'
+      → refusal_of a ≡ None → (d : ObservedChunk) (st' : List ℕ) → ran_of d st' ≡ record { taken = i; answer = a; state = t; store = u } → Runs s st rs lent d st'
   unfolding ran_from observe_until_refused last_answer
   running_end eight all f t u a i k le e d st' ed =
       let ei : i ≡ length rs = omega (arith, k.within) in
@@ -202,16 +202,3 @@ module _ (s : RecoveredRaftStorage) (st : List ℕ) (rs : List WalRecord) (lent 
       ∙ λ j. record { taken = add-zero i j; ended = sym e j; left = recovery_of t u })
       (k.last ∙ ap (λ (l : List WalRecord). last_answer a (recovery_of t u) (journal_of l lent)) none_left)
       k.ready ed
-
--- A state that is not sound is refused, and nothing changes.
-pub runs_unsound : (s : RecoveredRaftStorage) (st : List ℕ) (rs : List WalRecord) (lent : List ℕ) → sound_test s st ≡ false → (d : ObservedChunk)
-    → ran_of d st ≡ record { taken = 0; answer = D.refused 1; state = s; store = st } → Runs s st rs lent d st
-runs_unsound s st rs lent f d ed =
-    record {
-      model = ed ∙ sym (rw f refl);
-      means = λ q. absurd (true≢false (sym q ∙ f));
-      last = λ q. absurd (true≢false (sym q ∙ f));
-      stays = λ q l. absurd (true≢false (sym q ∙ f));
-      refused = λ q. ed;
-      unsound = λ q. f;
-    }

@@ -1,8 +1,8 @@
 -- A turn of observing: what the code reads and writes at a replica's place is the model's.
 -- Assumes nothing.
+use Rattle.std.specs.Prelude.{Option, None, Some, Result, Ok, Err}
 use mathlib.Core.Path.{◌≡◌, refl, sym, ap, subst, ◌∙◌}
 use mathlib.Core.Bool.{Bool, true, false, true≢false}
-use mathlib.Core.Option.{Option, none, some}
 use Rattle.ids.specs.declared.Refusal.{Refusal}
 use Rattle.definition.specs.Records.{Identity, unfit, form_rows}
 use Rattle.definition.specs.Log as D
@@ -11,15 +11,13 @@ use Rattle.ids.specs.Identity.{identity_of}
 use Rattle.view.specs.Decisions.{entry_answer, hard_state_rows_of, pointer_rows_of}
 use Rattle.view.specs.Model.{with_hard_state, with_pointer, covered_by, dropped_bytes}
 use Rattle.replay.specs.Plan.{answer_of, identity_in, index_of, look_of, existing_in, prior_in, held_term_in, Plan, planned, entry_plan, unless_row, plan_of, Holds, Settleable}
-use Rattle.storage.specs.declared.Found.{Found}
-use Rattle.storage.specs.declared.Found.TheVariants as F
 use Rattle.storage.specs.Model.{head_at, bytes_in, scan_next, scanned_only, with_head, changed_store}
 use Rattle.storage.specs.Finding.{found_in, found_at}
 use Rattle.storage.specs.Place.{owners_of}
 use Rattle.storage.proofs.Place.{owners_set}
-use Rattle.storage.proofs.Finding.{Told, found_told, found_among}
+use Rattle.storage.proofs.Finding.{Told, found_told}
 use Rattle.routing.specs.Observe.{Stepped, Ran, only_scanned, moved_entries, written, plan_at, settled_at}
-use Rattle.routing.proofs.Stepped.{owner_is, Drops, plan_drops, plan_keeps}
+use Rattle.routing.proofs.Stepped.{owner_is, Drops, plan_drops}
 use mathlib.Core.List.{List, ◌++◌, append_assoc}
 use Rattle.definition.specs.Recovery.{refusal_of}
 use Rattle.replay.specs.declared.Observation.{Observation}
@@ -39,12 +37,9 @@ use Rattle.store.proofs.Part.{length_part, get_d_part, length_splice}
 use Rattle.codec.specs.declared.RaftLogEntryRecord.{RaftLogEntryRecord}
 use Rattle.codec.specs.declared.RaftWalRecord.{RaftWalRecord}
 use Rattle.codec.specs.declared.RaftWalRecord.TheVariants as W
-use Rattle.codec.specs.declared.RecordBody.{RecordBody}
-use Rattle.codec.specs.declared.RecordBody.TheVariants as B
 use Rattle.codec.specs.declared.WalRecord.{WalRecord}
 use Rattle.codec.specs.Records.{payload_of, kind_of, owner_of, body_of, record_of}
 use Rattle.view.specs.declared.Header.{Header}
-use Rattle.view.specs.declared.Place.TheVariants as Q
 use Rattle.view.specs.declared.RecoveredRaftLogEntry.{RecoveredRaftLogEntry}
 use Rattle.view.specs.Meaning.{no_entry, size_of}
 use Rattle.view.specs.Readers.{place_of}
@@ -61,29 +56,21 @@ use Rattle.routing.specs.Admits.{index_in}
 pub fits_record : (r : WalRecord) (lent : List ℕ) → index_in r.body ≤ u64_max → fits (record_of r lent) ≡ true
 fits_record r lent = go r.body
   where
-    go : (b : RecordBody) → index_in b ≤ u64_max → fits (record { lsn = r.lsn.0; body = body_of b lent }) ≡ true
-    go B.Foreign l = refl
-    go (B.Raft (W.Entry e)) l = le-leb e.index u64_max l
-    go (B.Raft (W.HardState h)) l = refl
-    go (B.Raft (W.SnapshotPointer p)) l = le-leb p.last_included_index u64_max l
+    go : (b : Option RaftWalRecord) → index_in b ≤ u64_max → fits (record { lsn = r.lsn.0; body = body_of b lent }) ≡ true
+    go None l = refl
+    go (Some (W.Entry e)) l = le-leb e.index u64_max l
+    go (Some (W.HardState h)) l = refl
+    go (Some (W.SnapshotPointer p)) l = le-leb p.last_included_index u64_max l
 
--- Where the code finds a replica, among the identities that it keeps beside the state.
-pub found_of : (t : RecoveredRaftStorage) (k : RaftWalRecord) (i : RaftReplicaIdentity) (os : List RaftReplicaIdentity) (x y : Found) → os ≡ owners_of t.heads → i ≡ identity_in k
-    → x ≡ found_in os t.held (identity_of i) → x ≡ y → found_at t (owner_of k) ≡ y
-found_of t k i os x y eo ei ex ey =
-    ap (found_at t) (sym (owner_is k)) ∙ ap (λ (j : RaftReplicaIdentity). found_at t (identity_of j)) (sym ei) ∙ sym (found_among t (identity_of i) os x eo ex) ∙ ey
+-- Where the code finds a replica.
+pub found_of : (t : RecoveredRaftStorage) (k : RaftWalRecord) (i : RaftReplicaIdentity) (x y : Result ℕ ℕ) → i ≡ identity_in k → x ≡ found_at t (identity_of i) → x ≡ y → found_at t (owner_of k) ≡ y
+found_of t k i x y ei ex ey = ap (found_at t) (sym (owner_is k)) ∙ ap (λ (j : RaftReplicaIdentity). found_at t (identity_of j)) (sym ei) ∙ sym ex ∙ ey
 
--- They stay where a settled record's header is written.
-pub owners_kept : (t : RecoveredRaftStorage) (p : ℕ) (os : List RaftReplicaIdentity) (d : Change) (ys : List ℕ) (e b : RecoveredRaftLogEntry) (k : RaftWalRecord) (l : Lsn) (cs lent : List ℕ)
-    → os ≡ owners_of t.heads → planned d ys ≡ plan_of (head_at t p) e b k l cs lent → os ≡ owners_of (set t.heads p d.head)
-owners_kept t p os d ys e b k l cs lent eo ed =
-    eo ∙ sym (owners_set t.heads p d.head (ap (λ (x : Plan). x.head.identity) ed ∙ plan_keeps (head_at t p) e b k l cs lent))
+pub at_below : (t : RecoveredRaftStorage) (i : Identity) (p : ℕ) → found_at t i ≡ Ok p → p < t.held
+at_below t i p e = (subst (λ (x : Result ℕ ℕ). Told t i x) e (found_told t i)).1
 
-pub at_below : (t : RecoveredRaftStorage) (i : Identity) (p : ℕ) → found_at t i ≡ F.At p → p < t.held
-at_below t i p e = (subst (λ (x : Found). Told t i x) e (found_told t i)).1
-
-pub missing_within : (t : RecoveredRaftStorage) (i : Identity) (p : ℕ) → found_at t i ≡ F.Missing p → p ≤ t.held
-missing_within t i p e = (subst (λ (x : Found). Told t i x) e (found_told t i)).0.within
+pub missing_within : (t : RecoveredRaftStorage) (i : Identity) (p : ℕ) → found_at t i ≡ Err p → p ≤ t.held
+missing_within t i p e = (subst (λ (x : Result ℕ ℕ). Told t i x) e (found_told t i)).0.within
 
 -- The scan that counts a record, written where nothing else changes.
 pub scanned_by : (a : D.Answer) (t : RecoveredRaftStorage) (u : List ℕ) (l : Lsn) (next : Scan) → next ≡ scan_next t.scan l
@@ -91,10 +78,10 @@ pub scanned_by : (a : D.Answer) (t : RecoveredRaftStorage) (u : List ℕ) (l : L
 scanned_by a t u l next e = ap (λ (n : Scan). record { answer = a; state = scanned_only t n; store = u }) (sym e)
 
 -- The place that a record looks at, as the code computes it.
-pub place_is : (h : Header) (p : ℕ) (k : RaftWalRecord) (b : RecordBody) (index q : ℕ) → index ≡ index_in b → b ≡ B.Raft k → q ≡ look_of h index → 64 * p + q ≡ 64 * p + look_of h (index_of k)
+pub place_is : (h : Header) (p : ℕ) (k : RaftWalRecord) (b : Option RaftWalRecord) (index q : ℕ) → index ≡ index_in b → b ≡ Some k → q ≡ look_of h index → 64 * p + q ≡ 64 * p + look_of h (index_of k)
 place_is h p k b index q e f g = ap (λ (x : ℕ). 64 * p + x) (g ∙ ap (look_of h) (e ∙ ap index_in f))
 
-pub place_before : (h : Header) (p : ℕ) (k : RaftWalRecord) (b : RecordBody) (index q : ℕ) → index ≡ index_in b → b ≡ B.Raft k → q ≡ look_of h (index - 1) → 64 * p + q ≡ 64 * p + look_of h (index_of k - 1)
+pub place_before : (h : Header) (p : ℕ) (k : RaftWalRecord) (b : Option RaftWalRecord) (index q : ℕ) → index ≡ index_in b → b ≡ Some k → q ≡ look_of h (index - 1) → 64 * p + q ≡ 64 * p + look_of h (index_of k - 1)
 place_before h p k b index q e f g = ap (λ (x : ℕ). 64 * p + x) (g ∙ ap (λ (x : ℕ). look_of h (x - 1)) (e ∙ ap index_in f))
 
 -- A refused record drops nothing.
@@ -117,8 +104,8 @@ is_kept (D.replaced_suffix m) = false
 is_kept (D.refused n) = false
 
 row_drops : (o : Option ℕ) (h : Header) (e : RecoveredRaftLogEntry) (cs : List ℕ) (d : Plan) → d.answer ≡ D.kept → (n : ℕ) → (unless_row o h e cs d).answer ≡ D.refused n → (unless_row o h e cs d).dropped ≡ 0
-row_drops (some m) h e cs d a n w = refl
-row_drops none h e cs d a n w = absurd (true≢false (ap is_kept (sym a ∙ w)))
+row_drops (Some m) h e cs d a n w = refl
+row_drops None h e cs d a n w = absurd (true≢false (ap is_kept (sym a ∙ w)))
 
 plan_refused : (h : Header) (e b : RecoveredRaftLogEntry) (k : RaftWalRecord) (l : Lsn) (cs lent : List ℕ) (n : ℕ) → (plan_of h e b k l cs lent).answer ≡ D.refused n → (plan_of h e b k l cs lent).dropped ≡ 0
 plan_refused h e b (W.Entry r) l cs lent n w =
@@ -136,7 +123,7 @@ refused_drops d ys h e b k l cs lent n p w =
     omega arith
 
 -- A command that passes its form lies in the lent bytes.
-command_fits : (r : RaftLogEntryRecord) (lent : List ℕ) → first_of (form_rows (owner_of (W.Entry r)) (kind_of (W.Entry r) lent)) ≡ none → unfit (payload_of r.payload lent) ≡ false
+command_fits : (r : RaftLogEntryRecord) (lent : List ℕ) → first_of (form_rows (owner_of (W.Entry r)) (kind_of (W.Entry r) lent)) ≡ None → unfit (payload_of r.payload lent) ≡ false
 unfolding form_rows
 command_fits r lent f = (clear (form_rows (owner_of (W.Entry r)) (kind_of (W.Entry r) lent)) f).1.1.1.1.1.1.1.0
 
@@ -160,7 +147,7 @@ module _ (t : RecoveredRaftStorage) (u : List ℕ) (p : ℕ) (k : RaftWalRecord)
   x = index_of k
 
   -- What settling asks.
-  module _ (w : Linked t u) (lt : p < t.held) (form : first_of (form_rows (owner_of k) (kind_of k lent)) ≡ none) where
+  module _ (w : Linked t u) (lt : p < t.held) (form : first_of (form_rows (owner_of k) (kind_of k lent)) ≡ None) where
     holds : (index : ℕ) → Holds h (get_or t.entries (64 * p + look_of h index) no_entry) index (take (4096 * p + 4096 - 4096 * p) (drop (4096 * p) u))
     holds index =
         record {
@@ -169,7 +156,7 @@ module _ (t : RecoveredRaftStorage) (u : List ℕ) (p : ℕ) (k : RaftWalRecord)
           small = small;
         }
       where
-        small : (q : ℕ) → place_of h index ≡ Q.Held q → size_of (get_or t.entries (64 * p + look_of h index) no_entry).payload ≤ 64
+        small : (q : ℕ) → place_of h index ≡ Some q → size_of (get_or t.entries (64 * p + look_of h index) no_entry).payload ≤ 64
         small q e =
             let m : Held h index q = held_at_lem h index q e in
             let s : size_of (get_or (part (64 * p) 64 t.entries) q no_entry).payload ≤ 64 = (w.own p lt).sizes q m.below in
@@ -180,7 +167,7 @@ module _ (t : RecoveredRaftStorage) (u : List ℕ) (p : ℕ) (k : RaftWalRecord)
     settleable : Settleable h (get_or t.entries (64 * p + look_of h x) no_entry) k (take (4096 * p + 4096 - 4096 * p) (drop (4096 * p) u)) lent
     settleable = go k form
       where
-        go : (k : RaftWalRecord) → first_of (form_rows (owner_of k) (kind_of k lent)) ≡ none
+        go : (k : RaftWalRecord) → first_of (form_rows (owner_of k) (kind_of k lent)) ≡ None
             → Settleable h (get_or t.entries (64 * p + look_of h (index_of k)) no_entry) k (take (4096 * p + 4096 - 4096 * p) (drop (4096 * p) u)) lent
         go (W.Entry r) f = record { holds = holds r.index; fit = command_fits r lent f }
         go (W.HardState r) f = holds 0
@@ -228,22 +215,14 @@ module _ (t : RecoveredRaftStorage) (u : List ℕ) (p : ℕ) (k : RaftWalRecord)
     settled_moved z =
         settled_with (splice (set t.entries q d.entry) (64 * p) (part (64 * p + d.dropped) d.head.len (set t.entries q d.entry))) (rw (lt-ltb 0 d.dropped z))
 
-pub look_in : (h : Header) (x q : ℕ) → q ≡ look_of h x → q < 64
-look_in h x q e = rw e (look_below h x)
-
--- The store keeps its length where a block is written.
-pub back_length : (u : List ℕ) (p : ℕ) (ys : List ℕ) → p < 8 → length u ≡ 32768 → length ys ≡ 4096
-    → length (take (4096 * p) u ++ (ys ++ drop (4096 * p + 4096 - 4096 * p) (drop (4096 * p) u))) ≡ length u
-back_length u p ys h l ly = ap length (store_is u p ys ly) ∙ length_splice u (4096 * p) ys (omega (arith, ly, l))
-
 -- An answer that is no refusal, by its tag.
-pub not_refused : (x : Observation) → ((w : Refusal) → x ≡ O.Refused w → ⊥) → refusal_of (answer_of x) ≡ none
-not_refused O.Counted k = refl
-not_refused O.Appended k = refl
-not_refused O.IdempotentReplay k = refl
-not_refused (O.ReplacedSuffix r) k = refl
-not_refused O.Kept k = refl
-not_refused (O.Refused w) k = absurd (k w refl)
+pub not_refused : (x : Result Observation Refusal) → ((w : Refusal) → x ≡ Err w → ⊥) → refusal_of (answer_of x) ≡ None
+not_refused (Ok O.Counted) k = refl
+not_refused (Ok O.Appended) k = refl
+not_refused (Ok O.IdempotentReplay) k = refl
+not_refused (Ok (O.ReplacedSuffix r)) k = refl
+not_refused (Ok O.Kept) k = refl
+not_refused (Err w) k = absurd (k w refl)
 
 -- The block that is lent is 4,096 bytes long.
 pub lent_length : (u : List ℕ) (p : ℕ) → p < 8 → length u ≡ 32768 → length (take (4096 * p + 4096 - 4096 * p) (drop (4096 * p) u)) ≡ 4096
@@ -256,6 +235,6 @@ moved_fits d ys h e b k l cs lent p z w =
     let x : Drops h (planned d ys) = subst (λ (y : Plan). Drops h y) (sym p) (plan_drops h e b k l cs lent) in
     omega (arith, (x z).0, (x z).1)
 
-pub ran_answer : (i : ℕ) (o o' : Observation) (t : RecoveredRaftStorage) (u : List ℕ) → o ≡ o'
+pub ran_answer : (i : ℕ) (o o' : Result Observation Refusal) (t : RecoveredRaftStorage) (u : List ℕ) → o ≡ o'
     → ◌≡◌ {A = Ran} (record { taken = i; answer = answer_of o'; state = t; store = u }) (record { taken = i; answer = answer_of o; state = t; store = u })
-ran_answer i o o' t u e = ap (λ (x : Observation). record { taken = i; answer = answer_of x; state = t; store = u }) (sym e)
+ran_answer i o o' t u e = ap (λ (x : Result Observation Refusal). record { taken = i; answer = answer_of x; state = t; store = u }) (sym e)

@@ -1,6 +1,6 @@
 -- Runs of calls: each call gets the state and store that the one before left, written by nobody else (demand 3).
 -- Assumes nothing.
-use Rattle.std.specs.Prelude.{◌≡◌, List, [], ◌∷◌, ◌++◌, ℕ, take}
+use Rattle.std.specs.Prelude.{◌≡◌, List, [], ◌∷◌, ◌++◌, ℕ, take, Ok}
 use Rattle.definition.specs.Records.{Identity, Record}
 use Rattle.definition.specs.Log as D
 use Rattle.definition.specs.Recovery.{answers}
@@ -14,7 +14,6 @@ use Rattle.storage.specs.declared.RecoveredRaftStorage.{RecoveredRaftStorage}
 use Rattle.storage.specs.Model.{fresh_storage}
 use Rattle.storage.specs.Meaning.{meaning, recovery_of}
 use Rattle.finishing.specs.declared.Finished.{Finished}
-use Rattle.finishing.specs.declared.FinishAnswer.TheVariants as F
 use Rattle.recovery.specs.declared.observing.ObservedChunk.{ObservedChunk}
 use Rattle.recovery.specs.declared.observing.Observed.{Observed}
 use Rattle.finishing.specs.Finishes.{Finishes}
@@ -66,8 +65,8 @@ pub record Recovers (cs : List Call) (d : Finished) : Type 0 where
 -- What the claim on two recoveries says of two runs of the program: the same answers, replica by replica, the same replicas but
 -- for LSNs, the same store.
 pub record Agrees (A B : List Call) (d e : Finished) : Type 0 where
-  pub finished_A : d.answer ≡ F.Finished
-  pub finished_B : e.answer ≡ F.Finished
+  pub finished_A : d.answer ≡ (Ok tt)
+  pub finished_B : e.answer ≡ (Ok tt)
   pub same_answers : (i : Identity) → pick (is_of i) (records_of A) (answers_of fresh_storage (zeros 32768) A) ≡ pick (is_of i) (records_of B) (answers_of fresh_storage (zeros 32768) B)
   pub same_replicas :
       bare (meaning d.state (store_after_calls (zeros 32768) A)).replicas ≡ bare (meaning e.state (store_after_calls (zeros 32768) B)).replicas

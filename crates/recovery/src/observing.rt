@@ -3,25 +3,24 @@ ghost use Rattle.std.specs.Prelude.{◌≡◌, take};
 ghost use Rattle.recovery.specs.Runs.{at_most, Runs, Observing};
 
 use codec::{RaftWalRecord, WalRecord};
-use ids::{Checked, Refusal};
+use ids::Refusal;
 use replay::Observation;
 use routing::Admission;
-use storage::{Found, RecoveredRaftStorage};
-use view::RaftLogReplayOutcome;
+use storage::RecoveredRaftStorage;
 
 // How many records of a chunk were taken, the answer to the last one that was observed (a refusal where one ended it), and the
 // state then.
-#[derive(Clone, Copy)]
+#[derive(Clone, Copy, Debug, PartialEq, Eq)]
 pub struct ObservedChunk {
     pub taken: usize,
-    pub answer: Observation,
+    pub answer: Result<Observation, Refusal>,
     pub state: RecoveredRaftStorage,
 }
 
 // The answer, and the state after it.
-#[derive(Clone, Copy)]
+#[derive(Clone, Copy, Debug, PartialEq, Eq)]
 pub struct Observed {
-    pub answer: Observation,
+    pub answer: Result<Observation, Refusal>,
     pub state: RecoveredRaftStorage,
 }
 
@@ -29,10 +28,7 @@ pub struct Observed {
 fn at_most(count: usize) -> usize
     ensures { result ≡ at_most count }
 {
-    if count < 256 {
-        return count;
-    }
-    256
+    count.min(256)
 }
 
 // The first `count` records, until the first refusal. Soundness is tested once: every step keeps it, but for the count of scanned
@@ -46,62 +42,57 @@ pub fn observe_records(
 ) -> ObservedChunk
     ensures { Runs state store.old (take (at_most count) records) lent.now result store.new }
 {
-    if !soundness::is_sound(state, &store[..]) {
+    if !soundness::is_sound(&state, &store[..]) {
         return ObservedChunk {
             taken: 0,
-            answer: Observation::Refused(Refusal::Unsound),
-            state: state,
+            answer: Err(Refusal::Unsound),
+            state,
         };
     }
     let n = at_most(count);
-    let heads = state.heads;
-    let mut own = storage::identities(heads);
     let mut t = state;
-    let mut answer = Observation::Counted;
+    let mut answer = Ok(Observation::Counted);
     let mut i: usize = 0;
     while i < n {
         let r = records[i];
         let lsn = r.lsn;
         let index = routing::index_of(r);
-        let scan = t.scan;
-        match routing::admit(scan, r, lent) {
+        match routing::admit(t.scan, r, lent) {
             Admission::Refused(why) => {
                 return ObservedChunk {
                     taken: i,
-                    answer: Observation::Refused(why),
+                    answer: Err(why),
                     state: t,
                 };
             }
             Admission::Counted(next) => {
                 t.scan = next;
-                answer = Observation::Counted;
+                answer = Ok(Observation::Counted);
                 i = i + 1;
             }
             Admission::Malformed(next, why) => {
                 t.scan = next;
                 return ObservedChunk {
                     taken: i,
-                    answer: Observation::Refused(why),
+                    answer: Err(why),
                     state: t,
                 };
             }
             Admission::Raft(next, kind) => {
                 let identity = replay::owner(kind);
-                match storage::find(own, t.held, identity) {
-                    Found::Missing(p) => {
+                match t.find(identity) {
+                    Err(p) => {
                         if 8 <= t.held {
                             t.scan = next;
                             return ObservedChunk {
                                 taken: i,
-                                answer: Observation::Refused(Refusal::TooManyReplicas),
+                                answer: Err(Refusal::TooManyReplicas),
                                 state: t,
                             };
                         }
                         t = placing::open_place(t, store, p, identity);
-                        let heads = t.heads;
-                        own = storage::identities(heads);
                     }
-                    Found::At(p) => match kind {
+                    Ok(p) => match kind {
                         RaftWalRecord::Entry(received) => {
                             let head = t.heads[p];
                             let q = 64 * p + replay::look(head, index);
@@ -118,11 +109,11 @@ pub fn observe_records(
                                 &store[at..end],
                                 lent,
                             );
-                            if let RaftLogReplayOutcome::Refused(why) = outcome {
+                            if let Err(why) = outcome {
                                 t.scan = next;
                                 return ObservedChunk {
                                     taken: i,
-                                    answer: Observation::Refused(why),
+                                    answer: Err(why),
                                     state: t,
                                 };
                             }
@@ -147,18 +138,18 @@ pub fn observe_records(
                         RaftWalRecord::HardState(hard) => {
                             let head = t.heads[p];
                             let received = hard.hard_state;
-                            if let Checked::Refused(why) = view::decide_hard_state(head, received) {
+                            if let Err(why) = view::decide_hard_state(head, received) {
                                 t.scan = next;
                                 return ObservedChunk {
                                     taken: i,
-                                    answer: Observation::Refused(why),
+                                    answer: Err(why),
                                     state: t,
                                 };
                             }
                             let after = head.with_hard_state(received, lsn);
                             t.heads[p] = after;
                             t.scan = next;
-                            answer = Observation::Kept;
+                            answer = Ok(Observation::Kept);
                             i = i + 1;
                         }
                         RaftWalRecord::SnapshotPointer(pointer) => {
@@ -180,10 +171,10 @@ pub fn observe_records(
                             t.heads[p] = after;
                             t.entries[q] = entry;
                             t.scan = next;
-                            if let Observation::Refused(why) = answer {
+                            if let Err(why) = answer {
                                 return ObservedChunk {
                                     taken: i,
-                                    answer: Observation::Refused(why),
+                                    answer: Err(why),
                                     state: t,
                                 };
                             }
@@ -206,7 +197,7 @@ pub fn observe_records(
     }
     ObservedChunk {
         taken: i,
-        answer: answer,
+        answer,
         state: t,
     }
 }
@@ -221,10 +212,8 @@ pub fn observe_record(
     ensures { Observing state store.old r lent.now result store.new }
 {
     let chunk = observe_records(state, [r; 256], 1, lent, store);
-    let answer = chunk.answer;
-    let next = chunk.state;
     Observed {
-        answer: answer,
-        state: next,
+        answer: chunk.answer,
+        state: chunk.state,
     }
 }

@@ -1,9 +1,9 @@
 -- A state that is linked to its store and sound but for the count of scanned records: what observing starts from and keeps.
 -- Assumes nothing.
+use Rattle.std.specs.Prelude.{Option, None, Err}
 use mathlib.Core.Path.{◌≡◌, refl, ap, subst, ◌∙◌}
 use mathlib.Core.Bool.{true, false}
 use mathlib.Core.List.{List}
-use mathlib.Core.Option.{Option, none}
 use Prim.Native.Nat.{ℕ, ◌<◌}
 use native.Mathlib.Omega.{arith}
 use lib.ListN.{length}
@@ -23,7 +23,6 @@ use Rattle.storage.proofs.Open.{open_linked}
 use Rattle.storage.proofs.Place.{replicas_length, opened_put}
 use Rattle.soundness.specs.Sound.{sound_test}
 use Rattle.soundness.proofs.Sound.{linked_test, test_linked, test_state}
-use Rattle.storage.specs.declared.Found.TheVariants as F
 use Rattle.storage.proofs.Finding.{Told}
 use Rattle.routing.proofs.Observe.{stale}
 
@@ -61,7 +60,7 @@ module _ (s : RecoveredRaftStorage) (st : List ℕ) where
         record { linked = o.linked; ascends = f.ascends; each = f.each }
 
     -- So does a place that is opened for a record of good form.
-    module _ (p : ℕ) (i : RaftReplicaIdentity) (b : Kind) (form : first_of (form_rows (identity_of i) b) ≡ none) (t : Told s (identity_of i) (F.Missing p)) (lt : s.held < 8) where
+    module _ (p : ℕ) (i : RaftReplicaIdentity) (b : Kind) (form : first_of (form_rows (identity_of i) b) ≡ None) (t : Told s (identity_of i) (Err p)) (lt : s.held < 8) where
       abbrev s⁺ : RecoveredRaftStorage
       s⁺ = opened s p (empty_header i)
 

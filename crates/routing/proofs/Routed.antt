@@ -1,9 +1,9 @@
 -- What the definition makes of a record of a replica, refusal by refusal; and that the model's states mean just that.
 -- Assumes nothing.
+use Rattle.std.specs.Prelude.{None, Some}
 use mathlib.Core.Path.{◌≡◌, refl, sym, ap, ◌∙◌}
 use mathlib.Core.Bool.{true, false, and-false}
 use mathlib.Core.List.{List, [], ◌∷◌}
-use mathlib.Core.Option.{none, some}
 use Prim.Native.Nat.{ℕ, ◌<◌, ◌≤◌}
 use native.Mathlib.Omega.{arith}
 use borrow.Author.Tests.{le-leb, lt-leb}
@@ -29,39 +29,39 @@ use Rattle.storage.proofs.Place.{scanned_is, replicas_length, held_found, held_s
 -- On the definition's state.
 module _ (s : State) (lsn : ℕ) (i : Identity) (k : Kind) where
   -- 3 to 22
-  pub form_refused : (n : ℕ) → first_of (form_rows i k) ≡ some n → routed s lsn (some (i, k)) ≡ out (refused n) (scan s lsn s.replicas)
+  pub form_refused : (n : ℕ) → first_of (form_rows i k) ≡ Some n → routed s lsn (Some (i, k)) ≡ out (refused n) (scan s lsn s.replicas)
   unfolding routed visit admitted keep
   form_refused n e =
       let r : List Row = too_many_replicas (8 ≤? length s.replicas) (lookup i s.replicas) ∷ [] in
       rw (first_join (form_rows i k) r, e)
 
-  module _ (form : first_of (form_rows i k) ≡ none) where
+  module _ (form : first_of (form_rows i k) ≡ None) where
     -- 23
-    pub full_refused : lookup i s.replicas ≡ none → 8 ≤ length s.replicas → routed s lsn (some (i, k)) ≡ out (refused 23) (scan s lsn s.replicas)
+    pub full_refused : lookup i s.replicas ≡ None → 8 ≤ length s.replicas → routed s lsn (Some (i, k)) ≡ out (refused 23) (scan s lsn s.replicas)
     unfolding routed visit admitted keep
     full_refused a l =
-        rw (a, le-leb 8 (length s.replicas) l, first_join (form_rows i k) (too_many_replicas {L = Log ℕ} true none ∷ []), form)
+        rw (a, le-leb 8 (length s.replicas) l, first_join (form_rows i k) (too_many_replicas {L = Log ℕ} true None ∷ []), form)
 
     -- what a log makes of it
     abbrev settles : Log ℕ → Out State
     settles log = out (settled i k lsn log).answer (scan s lsn (keep i (settled i k lsn log).next s.replicas))
 
-    held_routed : (log : Log ℕ) → lookup i s.replicas ≡ some log → routed s lsn (some (i, k)) ≡ settles log
+    held_routed : (log : Log ℕ) → lookup i s.replicas ≡ Some log → routed s lsn (Some (i, k)) ≡ settles log
     unfolding routed visit admitted
     held_routed log a =
-        rw (a, first_join (form_rows i k) (too_many_replicas (8 ≤? length s.replicas) (some log) ∷ []), form, and-false (8 ≤? length s.replicas))
+        rw (a, first_join (form_rows i k) (too_many_replicas (8 ≤? length s.replicas) (Some log) ∷ []), form, and-false (8 ≤? length s.replicas))
 
-    new_routed : lookup i s.replicas ≡ none → length s.replicas < 8 → routed s lsn (some (i, k)) ≡ settles empty
+    new_routed : lookup i s.replicas ≡ None → length s.replicas < 8 → routed s lsn (Some (i, k)) ≡ settles empty
     unfolding routed visit admitted
     new_routed a l =
-        rw (a, lt-leb 8 (length s.replicas) l, first_join (form_rows i k) (too_many_replicas {L = Log ℕ} false none ∷ []), form)
+        rw (a, lt-leb 8 (length s.replicas) l, first_join (form_rows i k) (too_many_replicas {L = Log ℕ} false None ∷ []), form)
 
     -- 24 to 42
-    settles_refused : (log : Log ℕ) (n : ℕ) → first_of (rows i k log) ≡ some n → settles log ≡ out (refused n) (scan s lsn (put i log s.replicas))
+    settles_refused : (log : Log ℕ) (n : ℕ) → first_of (rows i k log) ≡ Some n → settles log ≡ out (refused n) (scan s lsn (put i log s.replicas))
     unfolding settled judged keep
     settles_refused log n e = rw (e, settled)
 
-    settles_accepted : (log : Log ℕ) → first_of (rows i k log) ≡ none → settles log ≡ out (answer_to k log) (scan s lsn (put i (accept k lsn log) s.replicas))
+    settles_accepted : (log : Log ℕ) → first_of (rows i k log) ≡ None → settles log ≡ out (answer_to k log) (scan s lsn (put i (accept k lsn log) s.replicas))
     unfolding settled judged keep
     settles_accepted log e = rw (e, settled)
 
@@ -78,31 +78,31 @@ module _ (s : RecoveredRaftStorage) (st : List ℕ) (l : Lsn) (k : Linked s st) 
   only_scanned_lem c a e = record { means = e ∙ ap (out a) (sym scanned_means); linked = scanned_linked s st k (scan_next s.scan l) }
 
   -- A record of no Raft kind.
-  pub foreign_observes : Observes s st l.0 none counted scanned st
+  pub foreign_observes : Observes s st l.0 None counted scanned st
   unfolding routed
-  foreign_observes = only_scanned_lem none counted refl
+  foreign_observes = only_scanned_lem None counted refl
 
   module _ (i : Identity) (b : Kind) where
     -- Refused for its form.
-    pub form_observes : (n : ℕ) → first_of (form_rows i b) ≡ some n → Observes s st l.0 (some (i, b)) (refused n) scanned st
-    form_observes n e = only_scanned_lem (some (i, b)) (refused n) (form_refused (meaning s st) l.0 i b n e)
+    pub form_observes : (n : ℕ) → first_of (form_rows i b) ≡ Some n → Observes s st l.0 (Some (i, b)) (refused n) scanned st
+    form_observes n e = only_scanned_lem (Some (i, b)) (refused n) (form_refused (meaning s st) l.0 i b n e)
 
-    module _ (form : first_of (form_rows i b) ≡ none) (p : ℕ) (at : Stands s i p) where
+    module _ (form : first_of (form_rows i b) ≡ None) (p : ℕ) (at : Stands s i p) where
       -- Of a replica held at p: refused, or a step there.
       module _ (lt : p < s.held) (eq : same i (id_of (head_at s p)) ≡ true) where
-        found : lookup i (meaning s st).replicas ≡ some (log_at s st p)
+        found : lookup i (meaning s st).replicas ≡ Some (log_at s st p)
         found = held_found s st i p at lt eq
 
-        pub held_refused : (n : ℕ) → first_of (rows i b (log_at s st p)) ≡ some n → Observes s st l.0 (some (i, b)) (refused n) scanned st
+        pub held_refused : (n : ℕ) → first_of (rows i b (log_at s st p)) ≡ Some n → Observes s st l.0 (Some (i, b)) (refused n) scanned st
         held_refused n e =
             let same-put : (meaning s st).replicas ≡ put i (log_at s st p) (meaning s st).replicas = held_step s st i p at lt eq (log_at s st p) s st (still_step s st p k lt s.scan) in
-            only_scanned_lem (some (i, b)) (refused n)
+            only_scanned_lem (Some (i, b)) (refused n)
             (held_routed (meaning s st) l.0 i b form (log_at s st p) found ∙ settles_refused (meaning s st) l.0 i b form (log_at s st p) n e
             ∙ ap (λ (r : List (Held (Log ℕ))). out (refused n) (scan (meaning s st) l.0 r)) (sym same-put))
 
-        pub held_accepted : (s' : RecoveredRaftStorage) (st' : List ℕ) → first_of (rows i b (log_at s st p)) ≡ none
+        pub held_accepted : (s' : RecoveredRaftStorage) (st' : List ℕ) → first_of (rows i b (log_at s st p)) ≡ None
             → Step s st p (held (id_of (head_at s p)) (accept b l.0 (log_at s st p))) s' st' → s'.scan ≡ scan_next s.scan l
-            → Observes s st l.0 (some (i, b)) (answer_to b (log_at s st p)) s' st'
+            → Observes s st l.0 (Some (i, b)) (answer_to b (log_at s st p)) s' st'
         held_accepted s' st' e q sc =
             let v : Log ℕ = accept b l.0 (log_at s st p) in
             record {
@@ -114,12 +114,12 @@ module _ (s : RecoveredRaftStorage) (st : List ℕ) (l : Lsn) (k : Linked s st) 
 
       -- Of a replica not held, where 8 are.
       module _ (ne : p < s.held → same i (id_of (head_at s p)) ≡ false) (asc : ascending (meaning s st).replicas ≡ true) where
-        pub full_observes : 8 ≤ s.held → Observes s st l.0 (some (i, b)) (refused 23) scanned st
+        pub full_observes : 8 ≤ s.held → Observes s st l.0 (Some (i, b)) (refused 23) scanned st
         full_observes h =
-            only_scanned_lem (some (i, b)) (refused 23) (full_refused (meaning s st) l.0 i b form (open_found s st i p at ne asc) (omega (arith, replicas_length s st)))
+            only_scanned_lem (Some (i, b)) (refused 23) (full_refused (meaning s st) l.0 i b form (open_found s st i p at ne asc) (omega (arith, replicas_length s st)))
 
   -- Of a replica not held: refused by its empty log, or a step where its place was opened.
-  module _ (i : RaftReplicaIdentity) (b : Kind) (form : first_of (form_rows (identity_of i) b) ≡ none) (p : ℕ) (at : Stands s (identity_of i) p)
+  module _ (i : RaftReplicaIdentity) (b : Kind) (form : first_of (form_rows (identity_of i) b) ≡ None) (p : ℕ) (at : Stands s (identity_of i) p)
       (ne : p < s.held → same (identity_of i) (id_of (head_at s p)) ≡ false) (asc : ascending (meaning s st).replicas ≡ true) (lt : s.held < 8) where
     abbrev s⁺ : RecoveredRaftStorage
     s⁺ = opened s p (empty_header i)
@@ -127,11 +127,11 @@ module _ (s : RecoveredRaftStorage) (st : List ℕ) (l : Lsn) (k : Linked s st) 
     abbrev st⁺ : List ℕ
     st⁺ = opened_store st p s.held
 
-    missing : routed (meaning s st) l.0 (some (identity_of i, b)) ≡ settles (meaning s st) l.0 (identity_of i) b form empty
+    missing : routed (meaning s st) l.0 (Some (identity_of i, b)) ≡ settles (meaning s st) l.0 (identity_of i) b form empty
     missing = new_routed (meaning s st) l.0 (identity_of i) b form (open_found s st (identity_of i) p at ne asc) (omega (arith, replicas_length s st))
 
-    pub new_refused : (n : ℕ) → first_of (rows {T = ℕ} (identity_of i) b empty) ≡ some n
-        → Observes s st l.0 (some (identity_of i, b)) (refused n) (scanned_only s⁺ (scan_next s.scan l)) st⁺
+    pub new_refused : (n : ℕ) → first_of (rows {T = ℕ} (identity_of i) b empty) ≡ Some n
+        → Observes s st l.0 (Some (identity_of i, b)) (refused n) (scanned_only s⁺ (scan_next s.scan l)) st⁺
     new_refused n e =
         record {
           means =
@@ -141,9 +141,9 @@ module _ (s : RecoveredRaftStorage) (st : List ℕ) (l : Lsn) (k : Linked s st) 
           linked = scanned_linked s⁺ st⁺ (open_linked s st p i k at.within lt) (scan_next s.scan l);
         }
 
-    pub new_accepted : (s' : RecoveredRaftStorage) (st' : List ℕ) → first_of (rows {T = ℕ} (identity_of i) b empty) ≡ none
+    pub new_accepted : (s' : RecoveredRaftStorage) (st' : List ℕ) → first_of (rows {T = ℕ} (identity_of i) b empty) ≡ None
         → Step s⁺ st⁺ p (held (id_of (head_at s⁺ p)) (accept b l.0 empty)) s' st' → s'.scan ≡ scan_next s.scan l
-        → Observes s st l.0 (some (identity_of i, b)) (answer_to {T = ℕ} b empty) s' st'
+        → Observes s st l.0 (Some (identity_of i, b)) (answer_to {T = ℕ} b empty) s' st'
     new_accepted s' st' e q sc =
         let v : Log ℕ = accept b l.0 empty in
         record {

@@ -1,10 +1,10 @@
 -- The model of one observed record is the definition's: its answer, and what state and store mean then.
 -- Assumes nothing.
+use Rattle.std.specs.Prelude.{Option, None, Some, Result, Ok, Err}
 use mathlib.Core.Path.{◌≡◌, refl, sym, ap, subst, ◌∙◌}
 use mathlib.Core.Bool.{Bool, true, false, ◌&&◌, cond}
 use mathlib.Core.Logic.{⊎_elim, inl, inr}
 use mathlib.Core.List.{List, [], ◌∷◌}
-use mathlib.Core.Option.{Option, none, some}
 use Prim.Native.Nat.{ℕ, ◌+◌, ◌-◌, ◌*◌, ◌<◌, ◌≤◌}
 use native.Mathlib.Omega.{arith}
 use borrow.Author.Tests.{ltb-true, ltb-false, leb-true, leb-false, le-leb, lt-leb}
@@ -24,8 +24,6 @@ use Rattle.store.proofs.Part.{get_d_part, set_block, splice_self, set_self}
 use Rattle.codec.specs.declared.RaftLogEntryRecord.{RaftLogEntryRecord}
 use Rattle.codec.specs.declared.RaftWalRecord.{RaftWalRecord}
 use Rattle.codec.specs.declared.RaftWalRecord.TheVariants as W
-use Rattle.codec.specs.declared.RecordBody.{RecordBody}
-use Rattle.codec.specs.declared.RecordBody.TheVariants as B
 use Rattle.codec.specs.declared.WalRecord.{WalRecord}
 use Rattle.codec.specs.Records.{kind_of, owner_of, body_of, record_of}
 use Rattle.view.specs.declared.Header.{Header}
@@ -47,8 +45,6 @@ use Rattle.storage.specs.Place.{owners_of, stands_at}
 use Rattle.storage.proofs.At.{block_front, entries_length, bytes_length, step_at}
 use Rattle.storage.proofs.Open.{open_linked}
 use Rattle.storage.proofs.Place.{owner_at, stands, stands_one, opened_stands, opened_same}
-use Rattle.storage.specs.declared.Found.{Found}
-use Rattle.storage.specs.declared.Found.TheVariants as F
 use Rattle.storage.specs.Finding.{found_at}
 use Rattle.routing.specs.Settle.{Settles}
 use Rattle.routing.specs.Observe.{Stepped, scan_rows, only_scanned, moved_entries, plan_at, settled_at, found_step, form_step, body_step, scan_step, stepped}
@@ -72,8 +68,8 @@ entry_drops (D.replaced_suffix m) h e r l cs lent x = absurd (omega arith)
 entry_drops (D.refused n) h e r l cs lent x = absurd (omega arith)
 
 unless_drops : (o : Option ℕ) (h : Header) (e : RecoveredRaftLogEntry) (cs : List ℕ) (d : Plan) → Drops h d → Drops h (unless_row o h e cs d)
-unless_drops (some n) h e cs d f x = absurd (omega arith)
-unless_drops none h e cs d f x = f x
+unless_drops (Some n) h e cs d f x = absurd (omega arith)
+unless_drops None h e cs d f x = f x
 
 pub plan_drops : (h : Header) (e b : RecoveredRaftLogEntry) (k : RaftWalRecord) (l : Lsn) (cs lent : List ℕ) → Drops h (plan_of h e b k l cs lent)
 plan_drops h e b (W.Entry r) l cs lent =
@@ -99,20 +95,8 @@ entry_keeps (D.replaced_suffix m) h e r l cs lent = refl
 entry_keeps (D.refused n) h e r l cs lent = refl
 
 unless_keeps : (o : Option ℕ) (h : Header) (e : RecoveredRaftLogEntry) (cs : List ℕ) (d : Plan) → d.head.identity ≡ h.identity → (unless_row o h e cs d).head.identity ≡ h.identity
-unless_keeps (some n) h e cs d f = refl
-unless_keeps none h e cs d f = f
-
-pub plan_keeps : (h : Header) (e b : RecoveredRaftLogEntry) (k : RaftWalRecord) (l : Lsn) (cs lent : List ℕ) → (plan_of h e b k l cs lent).head.identity ≡ h.identity
-plan_keeps h e b (W.Entry r) l cs lent =
-    entry_keeps
-    (entry_answer h (existing_in (place_of h r.index) e cs r lent) (prior_in (place_of h (r.index - 1)) h.snapshot_term b.term) r.index r.term)
-    h e r l cs lent
-plan_keeps h e b (W.HardState r) l cs lent =
-    unless_keeps (first_of (hard_state_rows_of h r.hard_state)) h e cs (record { answer = D.kept; head = with_hard_state h r.hard_state l; entry = e; dropped = 0; bytes = cs }) refl
-plan_keeps h e b (W.SnapshotPointer p) l cs lent =
-    let n : ℕ = covered_by h p.last_included_index in
-    unless_keeps (first_of (pointer_rows_of (identity_of p.identity) h p (held_term_in (place_of h p.last_included_index) e.term))) h e cs
-    (record { answer = D.kept; head = with_pointer h p l n; entry = e; dropped = n; bytes = dropped_bytes cs n }) refl
+unless_keeps (Some n) h e cs d f = refl
+unless_keeps None h e cs d f = f
 
 -- From one block to the state.
 module _ (s : RecoveredRaftStorage) (st : List ℕ) (p : ℕ) (k : Linked s st) (lt : p < s.held) where
@@ -230,53 +214,53 @@ owner_is (W.SnapshotPointer p) = refl
 -- What the model is in each case.
 module _ (s : RecoveredRaftStorage) (st : List ℕ) (r : WalRecord) (lent : List ℕ) where
   -- 1 and 2
-  pub stepped_stale : (n : ℕ) → first_of (scan_rows s.scan r.lsn) ≡ some n → stepped s st r lent ≡ record { answer = D.refused n; state = s; store = st }
+  pub stepped_stale : (n : ℕ) → first_of (scan_rows s.scan r.lsn) ≡ Some n → stepped s st r lent ≡ record { answer = D.refused n; state = s; store = st }
   unfolding stepped
   stepped_stale n e = ap (λ (o : Option ℕ). scan_step o s st r lent) e
 
-  module _ (e : first_of (scan_rows s.scan r.lsn) ≡ none) where
+  module _ (e : first_of (scan_rows s.scan r.lsn) ≡ None) where
     stepped_body : stepped s st r lent ≡ body_step r.body s st r.lsn lent
     unfolding stepped
     stepped_body = ap (λ (o : Option ℕ). scan_step o s st r lent) e
 
-    pub stepped_foreign : r.body ≡ B.Foreign → stepped s st r lent ≡ only_scanned D.counted s st r.lsn
-    stepped_foreign f = stepped_body ∙ ap (λ (y : RecordBody). body_step y s st r.lsn lent) f
+    pub stepped_foreign : r.body ≡ None → stepped s st r lent ≡ only_scanned D.counted s st r.lsn
+    stepped_foreign f = stepped_body ∙ ap (λ (y : Option RaftWalRecord). body_step y s st r.lsn lent) f
 
-    module _ (k : RaftWalRecord) (f : r.body ≡ B.Raft k) where
+    module _ (k : RaftWalRecord) (f : r.body ≡ Some k) where
       stepped_raft : stepped s st r lent ≡ form_step (first_of (form_rows (owner_of k) (kind_of k lent))) s st k r.lsn lent
-      stepped_raft = stepped_body ∙ ap (λ (y : RecordBody). body_step y s st r.lsn lent) f
+      stepped_raft = stepped_body ∙ ap (λ (y : Option RaftWalRecord). body_step y s st r.lsn lent) f
 
       -- 3 to 22
-      pub stepped_malformed : (n : ℕ) → first_of (form_rows (owner_of k) (kind_of k lent)) ≡ some n → stepped s st r lent ≡ only_scanned (D.refused n) s st r.lsn
+      pub stepped_malformed : (n : ℕ) → first_of (form_rows (owner_of k) (kind_of k lent)) ≡ Some n → stepped s st r lent ≡ only_scanned (D.refused n) s st r.lsn
       stepped_malformed n g = stepped_raft ∙ ap (λ (o : Option ℕ). form_step o s st k r.lsn lent) g
 
-      module _ (g : first_of (form_rows (owner_of k) (kind_of k lent)) ≡ none) (p : ℕ) where
-        stepped_found : (x : Found) → found_at s (owner_of k) ≡ x → stepped s st r lent ≡ found_step x s st k r.lsn lent
+      module _ (g : first_of (form_rows (owner_of k) (kind_of k lent)) ≡ None) (p : ℕ) where
+        stepped_found : (x : Result ℕ ℕ) → found_at s (owner_of k) ≡ x → stepped s st r lent ≡ found_step x s st k r.lsn lent
         stepped_found x y =
-            stepped_raft ∙ ap (λ (o : Option ℕ). form_step o s st k r.lsn lent) g ∙ ap (λ (z : Found). found_step z s st k r.lsn lent) y
+            stepped_raft ∙ ap (λ (o : Option ℕ). form_step o s st k r.lsn lent) g ∙ ap (λ (z : Result ℕ ℕ). found_step z s st k r.lsn lent) y
 
-        pub stepped_held : found_at s (owner_of k) ≡ F.At p → stepped s st r lent ≡ settled_at s st p k r.lsn lent
-        stepped_held y = stepped_found (F.At p) y
+        pub stepped_held : found_at s (owner_of k) ≡ Ok p → stepped s st r lent ≡ settled_at s st p k r.lsn lent
+        stepped_held y = stepped_found (Ok p) y
 
         -- Not held: 23, or its place is opened first.
-        stepped_missing : found_at s (owner_of k) ≡ F.Missing p → (b : Bool) → leb 8 s.held ≡ b
+        stepped_missing : found_at s (owner_of k) ≡ Err p → (b : Bool) → leb 8 s.held ≡ b
             → stepped s st r lent
             ≡ cond b (only_scanned (D.refused 23) s st r.lsn) (settled_at (opened s p (empty_header (identity_in k))) (opened_store st p s.held) p k r.lsn lent)
         stepped_missing y b z =
-            stepped_found (F.Missing p) y
+            stepped_found (Err p) y
             ∙ ap (λ (b : Bool).
             cond b (only_scanned (D.refused 23) s st r.lsn) (settled_at (opened s p (empty_header (identity_in k))) (opened_store st p s.held) p k r.lsn lent)) z
 
-        pub stepped_full : found_at s (owner_of k) ≡ F.Missing p → 8 ≤ s.held → stepped s st r lent ≡ only_scanned (D.refused 23) s st r.lsn
+        pub stepped_full : found_at s (owner_of k) ≡ Err p → 8 ≤ s.held → stepped s st r lent ≡ only_scanned (D.refused 23) s st r.lsn
         stepped_full y z = stepped_missing y true (le-leb 8 s.held z)
 
-        pub stepped_new : found_at s (owner_of k) ≡ F.Missing p → s.held < 8
+        pub stepped_new : found_at s (owner_of k) ≡ Err p → s.held < 8
             → stepped s st r lent ≡ settled_at (opened s p (empty_header (identity_in k))) (opened_store st p s.held) p k r.lsn lent
         stepped_new y z = stepped_missing y false (lt-leb 8 s.held z)
 
 -- Where its place was opened, the record finds its replica there, and does what it did before.
-module _ (s : RecoveredRaftStorage) (st : List ℕ) (r : WalRecord) (lent : List ℕ) (ready : Ready s st) (e : first_of (scan_rows s.scan r.lsn) ≡ none) (k : RaftWalRecord)
-    (f : r.body ≡ B.Raft k) (g : first_of (form_rows (owner_of k) (kind_of k lent)) ≡ none) (p : ℕ) (y : found_at s (owner_of k) ≡ F.Missing p) (lt : s.held < 8) where
+module _ (s : RecoveredRaftStorage) (st : List ℕ) (r : WalRecord) (lent : List ℕ) (ready : Ready s st) (e : first_of (scan_rows s.scan r.lsn) ≡ None) (k : RaftWalRecord)
+    (f : r.body ≡ Some k) (g : first_of (form_rows (owner_of k) (kind_of k lent)) ≡ None) (p : ℕ) (y : found_at s (owner_of k) ≡ Err p) (lt : s.held < 8) where
   abbrev i : Identity
   i = identity_of (identity_in k)
 
@@ -286,21 +270,21 @@ module _ (s : RecoveredRaftStorage) (st : List ℕ) (r : WalRecord) (lent : List
   abbrev st⁺ : List ℕ
   st⁺ = opened_store st p s.held
 
-  told : Told s i (F.Missing p)
-  told = subst (λ (j : Identity). Told s j (F.Missing p)) (sym (owner_is k)) (subst (λ (x : Found). Told s (owner_of k) x) y (found_told s (owner_of k)))
+  told : Told s i (Err p)
+  told = subst (λ (j : Identity). Told s j (Err p)) (sym (owner_is k)) (subst (λ (x : Result ℕ ℕ). Told s (owner_of k) x) y (found_told s (owner_of k)))
 
-  form : first_of (form_rows i (kind_of k lent)) ≡ none
-  form = subst (λ (j : Identity). first_of (form_rows j (kind_of k lent)) ≡ none) (sym (owner_is k)) g
+  form : first_of (form_rows i (kind_of k lent)) ≡ None
+  form = subst (λ (j : Identity). first_of (form_rows j (kind_of k lent)) ≡ None) (sym (owner_is k)) g
 
-  pub opened_found : found_at s⁺ (owner_of k) ≡ F.At p
+  pub opened_found : found_at s⁺ (owner_of k) ≡ Ok p
   opened_found =
       let os : List RaftReplicaIdentity = owners_of s⁺.heads in
       let one : p ≡ stands_at i s⁺.held os =
       stands_one s⁺ i p (stands_at i s⁺.held os) (opened_stands s st (identity_in k) p told.0 told.1 ready.linked lt) (stands i s⁺) in
-      let own : F.At p ≡ found_at s⁺ i =
+      let own : Ok p ≡ found_at s⁺ i =
       is_held os s⁺.held i p one (omega (arith, told.0.within))
       (ap (λ (o : RaftReplicaIdentity). same i (identity_of o)) (owner_at s⁺.heads p) ∙ opened_same s st (identity_in k) p told.0 told.1 ready.linked lt) in
-      subst (λ (j : Identity). found_at s⁺ j ≡ F.At p) (owner_is k) (sym own)
+      subst (λ (j : Identity). found_at s⁺ j ≡ Ok p) (owner_is k) (sym own)
 
   pub opened_again : Ready s⁺ st⁺ × (stepped s⁺ st⁺ r lent ≡ stepped s st r lent)
   opened_again =
@@ -311,7 +295,7 @@ module _ (s : RecoveredRaftStorage) (st : List ℕ) (p : ℕ) (k : RaftWalRecord
   abbrev settling : Stepped
   settling = settled_at s st p k l lent
 
-  pub settled_settles : Linked s st → p < s.held → first_of (form_rows (owner_of k) (kind_of k lent)) ≡ none → fits_kind (kind_of k lent) ≡ true
+  pub settled_settles : Linked s st → p < s.held → first_of (form_rows (owner_of k) (kind_of k lent)) ≡ None → fits_kind (kind_of k lent) ≡ true
       → Settles s st p (owner_of k) (kind_of k lent) l settling.answer settling.state settling.store
   settled_settles w lt form m =
       settles_at s st p w lt k l lent (owner_of k) (kind_of k lent)
@@ -335,11 +319,11 @@ module _ (s : RecoveredRaftStorage) (st : List ℕ) (ready : Ready s st) (l : Ls
         (t : RecoveredRaftStorage) (u : List ℕ) (p : ℕ) → Linked t u → p < t.held
         → Settles t u p j kind l (settled_at t u p k l lent).answer (settled_at t u p k l lent).state (settled_at t u p k l lent).store
 
-    found_observes : first_of (form_rows owner kind) ≡ none → Settling owner → (x : Found) → Told s owner x → Observing (some (owner, kind)) (found_step x s st k l lent)
-    found_observes form here (F.At p) t =
+    found_observes : first_of (form_rows owner kind) ≡ None → Settling owner → (x : Result ℕ ℕ) → Told s owner x → Observing (Some (owner, kind)) (found_step x s st k l lent)
+    found_observes form here (Ok p) t =
         let a : Stepped = settled_at s st p k l lent in
         held_observes s st l ready.linked (identity_in k) kind form p t a.answer a.state a.store (here s st p ready.linked t.1)
-    found_observes form here (F.Missing p) t = go (leb 8 s.held) refl
+    found_observes form here (Err p) t = go (leb 8 s.held) refl
       where
         s' : RecoveredRaftStorage
         s' = opened s p (empty_header (identity_in k))
@@ -350,22 +334,22 @@ module _ (s : RecoveredRaftStorage) (st : List ℕ) (ready : Ready s st) (l : Ls
         a : Stepped
         a = settled_at s' st' p k l lent
 
-        go : (b : Bool) → leb 8 s.held ≡ b → Observing (some (owner, kind)) (cond b (only_scanned (D.refused 23) s st l) a)
+        go : (b : Bool) → leb 8 s.held ≡ b → Observing (Some (owner, kind)) (cond b (only_scanned (D.refused 23) s st l) a)
         go true e = full_is s st l ready.linked (identity_in k) kind form p t ready.ascends (leb-true 8 s.held e)
         go false e =
             let lt : s.held < 8 = leb-false 8 s.held e in
             new_observes s st l ready.linked (identity_in k) kind form p t ready.ascends lt a.answer a.state a.store
             (here s' st' p (open_linked s st p (identity_in k) ready.linked t.0.within lt) (omega (arith, t.0.within)))
 
-    form_observed : fits_kind kind ≡ true → (o : Option ℕ) → first_of (form_rows (owner_of k) kind) ≡ o → Observing (some (owner_of k, kind)) (form_step o s st k l lent)
-    form_observed m (some n) e = form_observes s st l ready.linked (owner_of k) kind n e
-    form_observed m none e =
-        subst (λ (j : Identity). first_of (form_rows j kind) ≡ none → Settling j → (x : Found) → Told s j x → Observing (some (j, kind)) (found_step x s st k l lent)) (owner_is k)
+    form_observed : fits_kind kind ≡ true → (o : Option ℕ) → first_of (form_rows (owner_of k) kind) ≡ o → Observing (Some (owner_of k, kind)) (form_step o s st k l lent)
+    form_observed m (Some n) e = form_observes s st l ready.linked (owner_of k) kind n e
+    form_observed m None e =
+        subst (λ (j : Identity). first_of (form_rows j kind) ≡ None → Settling j → (x : Result ℕ ℕ) → Told s j x → Observing (Some (j, kind)) (found_step x s st k l lent)) (owner_is k)
         found_observes e (λ t u p w lt. settled_settles t u p k l lent w lt e m) (found_at s (owner_of k)) (found_told s (owner_of k))
 
-  body_observed : (y : RecordBody) → fits_content (content_of (body_of y lent)) ≡ true → Observing (content_of (body_of y lent)) (body_step y s st l lent)
-  body_observed B.Foreign m = foreign_observes s st l ready.linked
-  body_observed (B.Raft k) m = form_observed k m (first_of (form_rows (owner_of k) (kind_of k lent))) refl
+  body_observed : (y : Option RaftWalRecord) → fits_content (content_of (body_of y lent)) ≡ true → Observing (content_of (body_of y lent)) (body_step y s st l lent)
+  body_observed None m = foreign_observes s st l ready.linked
+  body_observed (Some k) m = form_observed k m (first_of (form_rows (owner_of k) (kind_of k lent))) refl
 
 -- One record.
 module _ (s : RecoveredRaftStorage) (st : List ℕ) (r : WalRecord) (lent : List ℕ) (ready : Ready s st) (m : fits (record_of r lent) ≡ true) where
@@ -375,7 +359,7 @@ module _ (s : RecoveredRaftStorage) (st : List ℕ) (r : WalRecord) (lent : List
   abbrev w : Record
   w = record_of r lent
 
-  pub stepped_observes : first_of (scan_rows s.scan r.lsn) ≡ none → Observes s st r.lsn.0 (content w) x.answer x.state x.store
+  pub stepped_observes : first_of (scan_rows s.scan r.lsn) ≡ None → Observes s st r.lsn.0 (content w) x.answer x.state x.store
   stepped_observes e =
       subst (λ (a : Stepped). Observes s st r.lsn.0 (content w) a.answer a.state a.store) (sym (stepped_body s st r lent e))
       (body_observed s st ready r.lsn lent r.body m)
@@ -407,7 +391,7 @@ module _ (s : RecoveredRaftStorage) (st : List ℕ) (r : WalRecord) (lent : List
   pub stepped_ready : Ready x.state x.store
   stepped_ready = go over refl (stale s r.lsn.0) refl
     where
-      still : (n : ℕ) → first_of (scan_rows s.scan r.lsn) ≡ some n → Ready x.state x.store
+      still : (n : ℕ) → first_of (scan_rows s.scan r.lsn) ≡ Some n → Ready x.state x.store
       still n e = subst (λ (a : Stepped). Ready a.state a.store) (sym (stepped_stale s st r lent n e)) ready
 
       go : (a : Bool) → over ≡ a → (b : Bool) → stale s r.lsn.0 ≡ b → Ready x.state x.store

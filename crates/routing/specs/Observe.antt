@@ -1,7 +1,6 @@
 -- The model of observing: one record, and a chunk of them. What is not said stays.
 -- Assumes nothing.
-use Rattle.std.specs.Prelude.{cond, List, [], ◌∷◌, map, ℕ, suc, ◌+◌, ◌-◌, ◌*◌, ltb, leb, get_or, set}
-use Rattle.std.proofs.Math.Option.{Option, none, some}
+use Rattle.std.specs.Prelude.{cond, List, [], ◌∷◌, map, ℕ, suc, ◌+◌, ◌-◌, ◌*◌, ltb, leb, get_or, set, Option, None, Some, Result, Ok, Err}
 use Rattle.definition.specs.Table.{◌≤?◌, Row, ◌when◌, first_of, if_some, u64_max}
 use Rattle.definition.specs.Records.{Record, form_rows}
 use Rattle.definition.specs.Log as D
@@ -9,8 +8,6 @@ use Rattle.definition.specs.Recovery.{observe, refusal_of, Recovery}
 use Rattle.ids.specs.declared.Lsn.{Lsn}
 use Rattle.store.specs.Splice.{part, splice}
 use Rattle.codec.specs.declared.RaftWalRecord.{RaftWalRecord}
-use Rattle.codec.specs.declared.RecordBody.{RecordBody}
-use Rattle.codec.specs.declared.RecordBody.TheVariants as B
 use Rattle.codec.specs.declared.WalRecord.{WalRecord}
 use Rattle.codec.specs.Records.{kind_of, owner_of, record_of}
 use Rattle.view.specs.Meaning.{lsn_of, no_entry}
@@ -21,8 +18,6 @@ use Rattle.storage.specs.declared.Scan.{Scan}
 use Rattle.storage.specs.declared.RecoveredRaftStorage.{RecoveredRaftStorage}
 use Rattle.storage.specs.Model.{head_at, bytes_in, scan_next, scanned_only, with_head, changed_store, opened, opened_store}
 use Rattle.soundness.specs.Sound.{sound_test}
-use Rattle.storage.specs.declared.Found.{Found}
-use Rattle.storage.specs.declared.Found.TheVariants as F
 use Rattle.storage.specs.Finding.{found_at}
 
 -- An answer, and the state and store then.
@@ -58,25 +53,25 @@ settled_at s st p k l lent =
     record { answer = d.answer; state = written s p (look_of (head_at s p) (index_of k)) d (scan_next s.scan l); store = changed_store st p d.bytes }
 
 -- At the place of its replica; a replica that is not held is refused where 8 are (23), and else its place is opened first.
-abbrev pub found_step : Found → RecoveredRaftStorage → List ℕ → RaftWalRecord → Lsn → List ℕ → Stepped
-found_step (F.At p) s st k l lent = settled_at s st p k l lent
-found_step (F.Missing p) s st k l lent =
+abbrev pub found_step : Result ℕ ℕ → RecoveredRaftStorage → List ℕ → RaftWalRecord → Lsn → List ℕ → Stepped
+found_step (Ok p) s st k l lent = settled_at s st p k l lent
+found_step (Err p) s st k l lent =
     cond (leb 8 s.held) (only_scanned (D.refused 23) s st l)
     (settled_at (opened s p (empty_header (identity_in k))) (opened_store st p s.held) p k l lent)
 
 -- 3 to 22.
 abbrev pub form_step : Option ℕ → RecoveredRaftStorage → List ℕ → RaftWalRecord → Lsn → List ℕ → Stepped
-form_step (some n) s st k l lent = only_scanned (D.refused n) s st l
-form_step none s st k l lent = found_step (found_at s (owner_of k)) s st k l lent
+form_step (Some n) s st k l lent = only_scanned (D.refused n) s st l
+form_step None s st k l lent = found_step (found_at s (owner_of k)) s st k l lent
 
-abbrev pub body_step : RecordBody → RecoveredRaftStorage → List ℕ → Lsn → List ℕ → Stepped
-body_step B.Foreign s st l lent = only_scanned D.counted s st l
-body_step (B.Raft k) s st l lent = form_step (first_of (form_rows (owner_of k) (kind_of k lent))) s st k l lent
+abbrev pub body_step : Option RaftWalRecord → RecoveredRaftStorage → List ℕ → Lsn → List ℕ → Stepped
+body_step None s st l lent = only_scanned D.counted s st l
+body_step (Some k) s st l lent = form_step (first_of (form_rows (owner_of k) (kind_of k lent))) s st k l lent
 
 -- 1 and 2 change nothing.
 abbrev pub scan_step : Option ℕ → RecoveredRaftStorage → List ℕ → WalRecord → List ℕ → Stepped
-scan_step (some n) s st r lent = record { answer = D.refused n; state = s; store = st }
-scan_step none s st r lent = body_step r.body s st r.lsn lent
+scan_step (Some n) s st r lent = record { answer = D.refused n; state = s; store = st }
+scan_step None s st r lent = body_step r.body s st r.lsn lent
 
 -- One record, on a state that was sound but for its count.
 unfoldable pub stepped : RecoveredRaftStorage → List ℕ → WalRecord → List ℕ → Stepped
@@ -94,8 +89,8 @@ pub record Ran : Type 0 where
   pub store : List ℕ
 
 abbrev pub ran_by : Option ℕ → Stepped → Ran → Ran
-ran_by (some n) x rest = record { taken = 0; answer = x.answer; state = x.state; store = x.store }
-ran_by none x rest = record { taken = suc rest.taken; answer = rest.answer; state = rest.state; store = rest.store }
+ran_by (Some n) x rest = record { taken = 0; answer = x.answer; state = x.state; store = x.store }
+ran_by None x rest = record { taken = suc rest.taken; answer = rest.answer; state = rest.state; store = rest.store }
 
 unfoldable pub ran_from : D.Answer → RecoveredRaftStorage → List ℕ → List WalRecord → List ℕ → Ran
 ran_from a s st [] lent = record { taken = 0; answer = a; state = s; store = st }
@@ -109,8 +104,8 @@ run_of s st rs lent = cond (sound_test s st) (ran_from D.counted s st rs lent) (
 
 -- The definition's answer to the last record that a chunk observes; `a` where there is none.
 abbrev pub last_by : Option ℕ → D.Answer → D.Answer → D.Answer
-last_by (some n) own rest = own
-last_by none own rest = rest
+last_by (Some n) own rest = own
+last_by None own rest = rest
 
 unfoldable pub last_answer : D.Answer → Recovery → List Record → D.Answer
 last_answer a w [] = a

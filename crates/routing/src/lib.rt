@@ -9,10 +9,9 @@ ghost use Rattle.storage.specs.Model.{scan_next};
 ghost use Rattle.routing.specs.Observe.{scan_rows};
 ghost use Rattle.routing.specs.Admits.{Admitted, index_in};
 
-use codec::{RaftWalRecord, RecordBody, WalRecord};
-use ids::{Checked, Lsn, Refusal};
+use codec::{RaftWalRecord, WalRecord};
+use ids::{Lsn, Refusal};
 use storage::Scan;
-use view::MaybeLsn;
 
 // One more record was scanned.
 fn scan_next(scan: Scan, lsn: Lsn) -> Scan
@@ -21,29 +20,25 @@ fn scan_next(scan: Scan, lsn: Lsn) -> Scan
 {
     Scan {
         scanned_records: scan.scanned_records + 1,
-        last_scanned_lsn: MaybeLsn::Some(lsn),
+        last_scanned_lsn: Some(lsn),
     }
 }
 
 // Whether a record may be scanned (1, where the count is at its end; 2).
-fn check_scan(scan: Scan, lsn: Lsn) -> Checked
+fn check_scan(scan: Scan, lsn: Lsn) -> Result<(), Refusal>
     ensures { checked_of result ≡ first_of (scan_rows scan lsn) }
 {
     if u64::MAX <= scan.scanned_records {
-        return Checked::Refused(Refusal::Unsound);
+        return Err(Refusal::Unsound);
     }
-    let last = scan.last_scanned_lsn;
-    let MaybeLsn::Some(x) = last else {
-        return Checked::Ok;
-    };
-    if lsn.0 <= x.0 {
-        return Checked::Refused(Refusal::NonIncreasingWalLsn);
+    match scan.last_scanned_lsn {
+        Some(last) if lsn <= last => Err(Refusal::NonIncreasingWalLsn),
+        _ => Ok(()),
     }
-    Checked::Ok
 }
 
 // What a record is before its replica is looked for, with the scan that counts it.
-#[derive(Clone, Copy)]
+#[derive(Clone, Copy, Debug, PartialEq, Eq)]
 pub enum Admission {
     Refused(Refusal),
     Counted(Scan),
@@ -55,15 +50,14 @@ pub enum Admission {
 pub fn admit(scan: Scan, r: WalRecord, lent: &[u8]) -> Admission
     ensures { Admitted result scan r lent.now }
 {
-    let lsn = r.lsn;
-    if let Checked::Refused(why) = check_scan(scan, lsn) {
+    if let Err(why) = check_scan(scan, r.lsn) {
         return Admission::Refused(why);
     }
-    let next = scan_next(scan, lsn);
-    let RecordBody::Raft(kind) = codec::raft_kind(r) else {
+    let next = scan_next(scan, r.lsn);
+    let Some(kind) = r.body else {
         return Admission::Counted(next);
     };
-    if let Checked::Refused(why) = codec::validate_form(kind, lent) {
+    if let Err(why) = codec::validate_form(kind, lent) {
         return Admission::Malformed(next, why);
     }
     Admission::Raft(next, kind)
@@ -73,8 +67,8 @@ pub fn admit(scan: Scan, r: WalRecord, lent: &[u8]) -> Admission
 pub fn index_of(r: WalRecord) -> u64
     ensures { result ≡ index_in r.body }
 {
-    let RecordBody::Raft(kind) = codec::raft_kind(r) else {
-        return 0;
-    };
-    replay::index_of(kind)
+    match r.body {
+        None => 0,
+        Some(kind) => replay::index_of(kind),
+    }
 }

@@ -1,4 +1,4 @@
--- `finishing::finish` meets its contract.
+-- `finish` meets its contract.
 use mathlib.Core.Path.{◌≡◌, refl, sym, ◌∙◌}
 use borrow.Author.Rules.{rules}
 use lib.ListN.{length}
@@ -11,8 +11,8 @@ returns-then-not-is_sound c =
     let a = c.args in
     finishes_unsound a.state a.store.now _ (sym c.is_sound.ensures ∙ c.if-not-is_sound.true) refl
 
-pub finish_all-next-requires : goal.finish_all-next-requires
-finish_all-next-requires c =
+pub finish_all-requires : goal.finish_all-requires
+finish_all-requires c =
     let a = c.args in
     let eight : length a.state.heads ≡ 8 = search rules in
     let all : length a.state.entries ≡ 512 = search rules in
@@ -23,4 +23,4 @@ returns c =
     let a = c.args in
     let eight : length a.state.heads ≡ 8 = search rules in
     let all : length a.state.entries ≡ 512 = search rules in
-    finishes_sound a.state a.store.now _ eight all (sym c.is_sound.ensures ∙ c.if-not-is_sound.false) (simp c.finish_all-next.ensures)
+    finishes_sound a.state a.store.now _ eight all (sym c.is_sound.ensures ∙ c.if-not-is_sound.false) (simp c.finish_all.ensures)

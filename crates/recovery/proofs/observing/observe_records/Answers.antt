@@ -14,20 +14,12 @@ use Rattle.replay.specs.declared.Change.{Change}
 use Rattle.replay.specs.Plan.{answer_of, index_of, look_of}
 use Rattle.storage.specs.declared.RecoveredRaftStorage.{RecoveredRaftStorage}
 use Rattle.storage.specs.Model.{head_at}
-use Rattle.storage.specs.Place.{owners_of}
-use Rattle.storage.proofs.Place.{owners_set}
 use Rattle.placing.proofs.Moves.{down_none, entries_down_turn}
 use Rattle.recovery.proofs.Chunking.{no_record, most_is, chunk_size, chunk_at, runs_most, index_fits_lem, chunk_start, chunk_end, chunk_takes, chunk_refused, chunk_opened, at_take, taken_length}
-use Rattle.recovery.proofs.Running.{runs_unsound}
 use Rattle.routing.proofs.Stepped.{stepped_stale, stepped_foreign, stepped_malformed, stepped_full, stepped_held}
-use Rattle.recovery.proofs.Turn.{found_of, owners_kept, at_below, missing_within, scanned_by, place_is, place_before, look_in, refused_drops, settleable_at, settled_here, settled_moved, back_length, not_refused, lent_length, moved_fits, ran_answer}
-use Rattle.recovery.proofs.Arms.{entry_refuses, entry_planned, entry_accepted, entry_drops, hard_refuses, hard_keeps, pointer_planned, replayable_of, installable_of, only_head, nothing, nothing_read}
+use Rattle.recovery.proofs.Turn.{found_of, at_below, missing_within, scanned_by, place_is, place_before, refused_drops, settleable_at, settled_here, settled_moved, not_refused, lent_length, moved_fits, ran_answer}
+use Rattle.recovery.proofs.Arms.{entry_refuses, entry_planned, entry_accepted, entry_drops, hard_refuses, hard_keeps, pointer_planned, replayable_of, only_head, nothing, nothing_read}
 use Rattle.recovery.proofs.observing.observe_records.Goals as goal
-
-pub returns-then-not-is_sound : goal.returns-then-not-is_sound
-returns-then-not-is_sound c =
-    let a = c.args in
-    runs_unsound a.state a.store.now _ _ (sym c.is_sound.ensures ∙ c.if-not-is_sound.true) _ refl
 
 pub loop-i-init : goal.loop-i-init
 loop-i-init c =
@@ -41,7 +33,6 @@ loop-i-init c =
       omega arith,
       refl,
       chunk_start _ a.state a.store.now (take at_most.result a.records) a.lent.now eight all (sym c.is_sound.ensures ∙ c.if-not-is_sound.false) (taken_length a.records _ (omega arith)),
-      c.identities-own.ensures,
     )
 
 pub returns-in-Refused : goal.returns-in-Refused
@@ -54,9 +45,6 @@ returns-in-Refused c =
     runs_most args.state args.store.now args.records args.lent.now _ args.count _ _ c.at_most-n.ensures
     (chunk_refused _ args.state args.store.now _ args.lent.now loop.t loop.store (answer_of loop.answer) loop.i loop.invariant.3 loop-test.true no_record (get_or args.records loop.i no_record) (at_take args.records _ loop.i no_record loop-test.true) (index_fits_lem (get_or args.records loop.i no_record) _ index.ensures index.type_inv) _ (stepped_stale loop.t loop.store (get_or args.records loop.i no_record) args.lent.now _ m) _ refl _ _ refl)
 
-pub loop-i-smaller-in-Counted : goal.loop-i-smaller-in-Counted
-loop-i-smaller-in-Counted c = omega (arith, c.loop-i-test.true)
-
 pub loop-i-preserved-in-Counted : goal.loop-i-preserved-in-Counted
 loop-i-preserved-in-Counted c =
     let loop = c.loop-i in
@@ -64,7 +52,7 @@ loop-i-preserved-in-Counted c =
     let args = c.args in
     let index = c.index_of-index in
     let m = rw c.in-Counted.is at c.admit.ensures in
-    (loop.invariant.0, omega (arith, loop-test.true), loop.invariant.2, chunk_takes _ args.state args.store.now _ args.lent.now loop.t loop.store (answer_of loop.answer) loop.i loop.invariant.3 loop-test.true no_record (get_or args.records loop.i no_record) (at_take args.records _ loop.i no_record loop-test.true) (index_fits_lem (get_or args.records loop.i no_record) _ index.ensures index.type_inv) _ (stepped_foreign loop.t loop.store (get_or args.records loop.i no_record) args.lent.now m.0 m.2 ∙ scanned_by _ loop.t loop.store (get_or args.records loop.i no_record).lsn _ m.1) refl, loop.invariant.4)
+    (loop.invariant.0, omega (arith, loop-test.true), loop.invariant.2, chunk_takes _ args.state args.store.now _ args.lent.now loop.t loop.store (answer_of loop.answer) loop.i loop.invariant.3 loop-test.true no_record (get_or args.records loop.i no_record) (at_take args.records _ loop.i no_record loop-test.true) (index_fits_lem (get_or args.records loop.i no_record) _ index.ensures index.type_inv) _ (stepped_foreign loop.t loop.store (get_or args.records loop.i no_record) args.lent.now m.0 m.2 ∙ scanned_by _ loop.t loop.store (get_or args.records loop.i no_record).lsn _ m.1) refl)
 
 pub returns-in-Malformed : goal.returns-in-Malformed
 returns-in-Malformed c =
@@ -76,9 +64,6 @@ returns-in-Malformed c =
     runs_most args.state args.store.now args.records args.lent.now _ args.count _ _ c.at_most-n.ensures
     (chunk_refused _ args.state args.store.now _ args.lent.now loop.t loop.store (answer_of loop.answer) loop.i loop.invariant.3 loop-test.true no_record (get_or args.records loop.i no_record) (at_take args.records _ loop.i no_record loop-test.true) (index_fits_lem (get_or args.records loop.i no_record) _ index.ensures index.type_inv) _ (stepped_malformed loop.t loop.store (get_or args.records loop.i no_record) args.lent.now m.0 m.2.kind m.2.is _ m.2.row ∙ scanned_by _ loop.t loop.store (get_or args.records loop.i no_record).lsn _ m.1) _ refl _ _ refl)
 
-pub find-requires : goal.find-requires
-find-requires c = c.loop-i.invariant.3.running.ready.linked.few
-
 pub returns-then-t-ge8 : goal.returns-then-t-ge8
 returns-then-t-ge8 c =
     let args = c.args in
@@ -87,18 +72,15 @@ returns-then-t-ge8 c =
     let index = c.index_of-index in
     let m = rw c.in-Raft.is at c.admit.ensures in
     runs_most args.state args.store.now args.records args.lent.now _ args.count _ _ c.at_most-n.ensures
-    (chunk_refused _ args.state args.store.now _ args.lent.now loop.t loop.store (answer_of loop.answer) loop.i loop.invariant.3 loop-test.true no_record (get_or args.records loop.i no_record) (at_take args.records _ loop.i no_record loop-test.true) (index_fits_lem (get_or args.records loop.i no_record) _ index.ensures index.type_inv) _ (stepped_full loop.t loop.store (get_or args.records loop.i no_record) args.lent.now m.0 c.in-Raft.kind m.2 m.3 _ (found_of loop.t c.in-Raft.kind _ _ _ _ loop.invariant.4 c.owner-identity.ensures c.find.ensures c.in-Missing.is) c.if-t-ge8.true ∙ scanned_by _ loop.t loop.store (get_or args.records loop.i no_record).lsn _ m.1) _ refl _ _ refl)
+    (chunk_refused _ args.state args.store.now _ args.lent.now loop.t loop.store (answer_of loop.answer) loop.i loop.invariant.3 loop-test.true no_record (get_or args.records loop.i no_record) (at_take args.records _ loop.i no_record loop-test.true) (index_fits_lem (get_or args.records loop.i no_record) _ index.ensures index.type_inv) _ (stepped_full loop.t loop.store (get_or args.records loop.i no_record) args.lent.now m.0 c.in-Raft.kind m.2 m.3 _ (found_of loop.t c.in-Raft.kind _ _ _ c.owner-identity.ensures c.find.ensures c.in-Err.is) c.if-t-ge8.true ∙ scanned_by _ loop.t loop.store (get_or args.records loop.i no_record).lsn _ m.1) _ refl _ _ refl)
 
 pub open_place-t-requires : goal.open_place-t-requires
 open_place-t-requires c =
     let loop = c.loop-i in
-    record { linked = loop.invariant.3.running.ready.linked; within = missing_within loop.t _ _ (found_of loop.t c.in-Raft.kind _ _ _ _ loop.invariant.4 c.owner-identity.ensures c.find.ensures c.in-Missing.is); room = c.if-t-ge8.false }
+    record { linked = loop.invariant.3.running.ready.linked; within = missing_within loop.t _ _ (found_of loop.t c.in-Raft.kind _ _ _ c.owner-identity.ensures c.find.ensures c.in-Err.is); room = c.if-t-ge8.false }
 
-pub loop-i-smaller-in-Missing : goal.loop-i-smaller-in-Missing
-loop-i-smaller-in-Missing c = let e = ap (λ (t : RecoveredRaftStorage). t.held) c.open_place-t.ensures.0 in omega (arith, e, c.if-t-ge8.false)
-
-pub loop-i-preserved-in-Missing : goal.loop-i-preserved-in-Missing
-loop-i-preserved-in-Missing c =
+pub loop-i-preserved-in-Err : goal.loop-i-preserved-in-Err
+loop-i-preserved-in-Err c =
     let args = c.args in
     let loop = c.loop-i in
     let owner = c.owner-identity in
@@ -106,137 +88,8 @@ loop-i-preserved-in-Missing c =
     let loop-test = c.loop-i-test in
     let index = c.index_of-index in
     let m = rw c.in-Raft.is at c.admit.ensures in
-    let x = chunk_at _ args.state args.store.now _ args.lent.now _ _ _ _ (answer_of loop.answer) loop.i (rw owner.ensures at open_place.ensures.0) open_place.ensures.1 (chunk_opened _ args.state args.store.now _ args.lent.now loop.t loop.store (answer_of loop.answer) loop.i loop.invariant.3 loop-test.true no_record (get_or args.records loop.i no_record) (at_take args.records _ loop.i no_record loop-test.true) (index_fits_lem (get_or args.records loop.i no_record) _ index.ensures index.type_inv) m.0 c.in-Raft.kind m.2 m.3 _ (found_of loop.t c.in-Raft.kind _ _ _ _ loop.invariant.4 owner.ensures c.find.ensures c.in-Missing.is) c.if-t-ge8.false) in
-    (loop.invariant.0, loop.invariant.1, chunk_size _ _ _ _ _ _ _ _ _ x, x, c.identities-own-in-Missing.ensures)
-
-pub offset_bounds-t-p : goal.offset_bounds-t-p
-offset_bounds-t-p c =
-    let loop = c.loop-i in
-    let kind = c.in-Raft.kind in
-    let linked = loop.invariant.3.running.ready.linked in
-    let held = found_of loop.t kind _ _ _ _ loop.invariant.4 c.owner-identity.ensures c.find.ensures c.in-At.is in
-    let below = at_below loop.t (owner_of kind) _ held in
-    record { fits = omega (arith, below, linked.few) }
-
-pub bounds-t-p : goal.bounds-t-p
-bounds-t-p c =
-    let loop = c.loop-i in
-    let kind = c.in-Raft.kind in
-    let linked = loop.invariant.3.running.ready.linked in
-    let held = found_of loop.t kind _ _ _ _ loop.invariant.4 c.owner-identity.ensures c.find.ensures c.in-At.is in
-    let below = at_below loop.t (owner_of kind) _ held in
-    omega (arith, below, linked.few)
-
-pub overflow_mul-q : goal.overflow_mul-q
-overflow_mul-q c =
-    let loop = c.loop-i in
-    let kind = c.in-Raft.kind in
-    let linked = loop.invariant.3.running.ready.linked in
-    let held = found_of loop.t kind _ _ _ _ loop.invariant.4 c.owner-identity.ensures c.find.ensures c.in-At.is in
-    let below = at_below loop.t (owner_of kind) _ held in
-    record { fits = omega (arith, below, linked.few) }
-
-pub overflow_add-q : goal.overflow_add-q
-overflow_add-q c =
-    let loop = c.loop-i in
-    let kind = c.in-Raft.kind in
-    let p = c.in-At.p in
-    let h = head_at loop.t p in
-    let linked = loop.invariant.3.running.ready.linked in
-    let held = found_of loop.t kind _ _ _ _ loop.invariant.4 c.owner-identity.ensures c.find.ensures c.in-At.is in
-    let below = at_below loop.t (owner_of kind) _ held in
-    record { fits = omega (arith, below, linked.few, look_in h _ _ c.look.ensures) }
-
-pub overflow_mul-before : goal.overflow_mul-before
-overflow_mul-before c =
-    let loop = c.loop-i in
-    let kind = c.in-Raft.kind in
-    let linked = loop.invariant.3.running.ready.linked in
-    let held = found_of loop.t kind _ _ _ _ loop.invariant.4 c.owner-identity.ensures c.find.ensures c.in-At.is in
-    let below = at_below loop.t (owner_of kind) _ held in
-    record { fits = omega (arith, below, linked.few) }
-
-pub overflow_add-before : goal.overflow_add-before
-overflow_add-before c =
-    let loop = c.loop-i in
-    let kind = c.in-Raft.kind in
-    let p = c.in-At.p in
-    let h = head_at loop.t p in
-    let linked = loop.invariant.3.running.ready.linked in
-    let held = found_of loop.t kind _ _ _ _ loop.invariant.4 c.owner-identity.ensures c.find.ensures c.in-At.is in
-    let below = at_below loop.t (owner_of kind) _ held in
-    record { fits = omega (arith, below, linked.few, look_in h _ _ c.look_before.ensures) }
-
-pub offset_bounds-t-q : goal.offset_bounds-t-q
-offset_bounds-t-q c =
-    let loop = c.loop-i in
-    let kind = c.in-Raft.kind in
-    let p = c.in-At.p in
-    let h = head_at loop.t p in
-    let linked = loop.invariant.3.running.ready.linked in
-    let held = found_of loop.t kind _ _ _ _ loop.invariant.4 c.owner-identity.ensures c.find.ensures c.in-At.is in
-    let below = at_below loop.t (owner_of kind) _ held in
-    record { fits = omega (arith, below, linked.few, look_in h _ _ c.look.ensures) }
-
-pub bounds-t-q : goal.bounds-t-q
-bounds-t-q c =
-    let loop = c.loop-i in
-    let kind = c.in-Raft.kind in
-    let p = c.in-At.p in
-    let h = head_at loop.t p in
-    let linked = loop.invariant.3.running.ready.linked in
-    let held = found_of loop.t kind _ _ _ _ loop.invariant.4 c.owner-identity.ensures c.find.ensures c.in-At.is in
-    let below = at_below loop.t (owner_of kind) _ held in
-    omega (arith, below, linked.few, look_in h _ _ c.look.ensures)
-
-pub offset_bounds-t-before : goal.offset_bounds-t-before
-offset_bounds-t-before c =
-    let loop = c.loop-i in
-    let kind = c.in-Raft.kind in
-    let p = c.in-At.p in
-    let h = head_at loop.t p in
-    let linked = loop.invariant.3.running.ready.linked in
-    let held = found_of loop.t kind _ _ _ _ loop.invariant.4 c.owner-identity.ensures c.find.ensures c.in-At.is in
-    let below = at_below loop.t (owner_of kind) _ held in
-    record { fits = omega (arith, below, linked.few, look_in h _ _ c.look_before.ensures) }
-
-pub bounds-t-before : goal.bounds-t-before
-bounds-t-before c =
-    let loop = c.loop-i in
-    let kind = c.in-Raft.kind in
-    let p = c.in-At.p in
-    let h = head_at loop.t p in
-    let linked = loop.invariant.3.running.ready.linked in
-    let held = found_of loop.t kind _ _ _ _ loop.invariant.4 c.owner-identity.ensures c.find.ensures c.in-At.is in
-    let below = at_below loop.t (owner_of kind) _ held in
-    omega (arith, below, linked.few, look_in h _ _ c.look_before.ensures)
-
-pub overflow_mul-at : goal.overflow_mul-at
-overflow_mul-at c =
-    let loop = c.loop-i in
-    let kind = c.in-Raft.kind in
-    let linked = loop.invariant.3.running.ready.linked in
-    let held = found_of loop.t kind _ _ _ _ loop.invariant.4 c.owner-identity.ensures c.find.ensures c.in-At.is in
-    let below = at_below loop.t (owner_of kind) _ held in
-    record { fits = omega (arith, below, linked.few) }
-
-pub overflow_add-end : goal.overflow_add-end
-overflow_add-end c =
-    let loop = c.loop-i in
-    let kind = c.in-Raft.kind in
-    let linked = loop.invariant.3.running.ready.linked in
-    let held = found_of loop.t kind _ _ _ _ loop.invariant.4 c.owner-identity.ensures c.find.ensures c.in-At.is in
-    let below = at_below loop.t (owner_of kind) _ held in
-    record { fits = omega (arith, below, linked.few) }
-
-pub slice_bounds-decide-end : goal.slice_bounds-decide-end
-slice_bounds-decide-end c =
-    let loop = c.loop-i in
-    let kind = c.in-Raft.kind in
-    let linked = loop.invariant.3.running.ready.linked in
-    let held = found_of loop.t kind _ _ _ _ loop.invariant.4 c.owner-identity.ensures c.find.ensures c.in-At.is in
-    let below = at_below loop.t (owner_of kind) _ held in
-    omega (arith, below, linked.few, linked.size)
+    let x = chunk_at _ args.state args.store.now _ args.lent.now _ _ _ _ (answer_of loop.answer) loop.i (rw owner.ensures at open_place.ensures.0) open_place.ensures.1 (chunk_opened _ args.state args.store.now _ args.lent.now loop.t loop.store (answer_of loop.answer) loop.i loop.invariant.3 loop-test.true no_record (get_or args.records loop.i no_record) (at_take args.records _ loop.i no_record loop-test.true) (index_fits_lem (get_or args.records loop.i no_record) _ index.ensures index.type_inv) m.0 c.in-Raft.kind m.2 m.3 _ (found_of loop.t c.in-Raft.kind _ _ _ owner.ensures c.find.ensures c.in-Err.is) c.if-t-ge8.false) in
+    (loop.invariant.0, loop.invariant.1, chunk_size _ _ _ _ _ _ _ _ _ x, x)
 
 pub decide-outcome-requires : goal.decide-outcome-requires
 decide-outcome-requires c =
@@ -244,64 +97,32 @@ decide-outcome-requires c =
     let loop = c.loop-i in
     let index = c.index_of-index in
     let kind = c.in-Raft.kind in
-    let p = c.in-At.p in
+    let p = c.in-Ok.p in
     let r = get_or args.records loop.i no_record in
     let h = head_at loop.t p in
     let m = rw c.in-Raft.is at c.admit.ensures in
     let linked = loop.invariant.3.running.ready.linked in
-    let held = found_of loop.t kind _ _ _ _ loop.invariant.4 c.owner-identity.ensures c.find.ensures c.in-At.is in
+    let held = found_of loop.t kind _ _ _ c.owner-identity.ensures c.find.ensures c.in-Ok.is in
     let below = at_below loop.t (owner_of kind) _ held in
-    replayable_of h _ kind _ _ args.lent.now c.in-Entry.is (settleable_at loop.t loop.store p kind r.lsn args.lent.now linked below m.3 _ (place_is h p kind r.body _ _ index.ensures m.2 c.look.ensures))
+    replayable_of h _ kind _ _ args.lent.now c.in-Entry.is (settleable_at loop.t loop.store p kind r.lsn args.lent.now linked below m.3 _ (place_is h p kind r.body _ _ index.ensures m.2 c.look.ensures.place))
 
-pub shape_of-store-in-Refused-outcome : goal.shape_of-store-in-Refused-outcome
-shape_of-store-in-Refused-outcome c =
-    let loop = c.loop-i in
-    loop.invariant.2
-
-pub returns-in-Refused-outcome : goal.returns-in-Refused-outcome
-returns-in-Refused-outcome c =
+pub returns-in-Err-outcome : goal.returns-in-Err-outcome
+returns-in-Err-outcome c =
     let args = c.args in
     let loop = c.loop-i in
     let loop-test = c.loop-i-test in
     let index = c.index_of-index in
     let kind = c.in-Raft.kind in
-    let p = c.in-At.p in
+    let p = c.in-Ok.p in
     let r = get_or args.records loop.i no_record in
     let h = head_at loop.t p in
     let m = rw c.in-Raft.is at c.admit.ensures in
     let linked = loop.invariant.3.running.ready.linked in
-    let held = found_of loop.t kind _ _ _ _ loop.invariant.4 c.owner-identity.ensures c.find.ensures c.in-At.is in
+    let held = found_of loop.t kind _ _ _ c.owner-identity.ensures c.find.ensures c.in-Ok.is in
     let below = at_below loop.t (owner_of kind) _ held in
     runs_most args.state args.store.now args.records args.lent.now _ args.count _ _ c.at_most-n.ensures
     (chunk_refused _ args.state args.store.now _ args.lent.now loop.t loop.store (answer_of loop.answer) loop.i loop.invariant.3 loop-test.true no_record r (at_take args.records _ loop.i no_record loop-test.true) (index_fits_lem r _ index.ensures index.type_inv) _
-    (stepped_held loop.t loop.store r args.lent.now m.0 kind m.2 m.3 p held ∙ nothing_read loop.t loop.store p kind r.lsn args.lent.now (omega (arith, below, linked.few)) linked.size _ m.1 _ _ (place_is h p kind r.body _ _ index.ensures m.2 c.look.ensures) (place_before h p kind r.body _ _ index.ensures m.2 c.look_before.ensures) _ (entry_refuses h (get_or loop.t.entries (64 * p + c.look.result) no_entry) (get_or loop.t.entries (64 * p + c.look_before.result) no_entry) kind _ c.in-Entry.is r.lsn _ args.lent.now c.decide-outcome.result c.decide-outcome.ensures _ c.in-Refused-outcome.is)) _ refl _ _ refl)
-
-pub offset_bounds-t-p-in-Entry : goal.offset_bounds-t-p-in-Entry
-offset_bounds-t-p-in-Entry c =
-    let loop = c.loop-i in
-    let kind = c.in-Raft.kind in
-    let linked = loop.invariant.3.running.ready.linked in
-    let held = found_of loop.t kind _ _ _ _ loop.invariant.4 c.owner-identity.ensures c.find.ensures c.in-At.is in
-    let below = at_below loop.t (owner_of kind) _ held in
-    record { fits = omega (arith, below, linked.few) }
-
-pub bounds-t-p-in-Entry : goal.bounds-t-p-in-Entry
-bounds-t-p-in-Entry c =
-    let loop = c.loop-i in
-    let kind = c.in-Raft.kind in
-    let linked = loop.invariant.3.running.ready.linked in
-    let held = found_of loop.t kind _ _ _ _ loop.invariant.4 c.owner-identity.ensures c.find.ensures c.in-At.is in
-    let below = at_below loop.t (owner_of kind) _ held in
-    omega (arith, below, linked.few)
-
-pub slice_bounds-write_entry-end : goal.slice_bounds-write_entry-end
-slice_bounds-write_entry-end c =
-    let loop = c.loop-i in
-    let kind = c.in-Raft.kind in
-    let linked = loop.invariant.3.running.ready.linked in
-    let held = found_of loop.t kind _ _ _ _ loop.invariant.4 c.owner-identity.ensures c.find.ensures c.in-At.is in
-    let below = at_below loop.t (owner_of kind) _ held in
-    omega (arith, below, linked.few, linked.size)
+    (stepped_held loop.t loop.store r args.lent.now m.0 kind m.2 m.3 p held ∙ nothing_read loop.t loop.store p kind r.lsn args.lent.now (omega (arith, below, linked.few)) linked.size _ m.1 _ _ (place_is h p kind r.body _ _ index.ensures m.2 c.look.ensures.place) (place_before h p kind r.body _ _ index.ensures m.2 c.look_before.ensures.place) _ (entry_refuses h (get_or loop.t.entries (64 * p + c.look.result) no_entry) (get_or loop.t.entries (64 * p + c.look_before.result) no_entry) kind _ c.in-Entry.is r.lsn _ args.lent.now c.decide-outcome.result c.decide-outcome.ensures _ c.in-Err-outcome.is)) _ refl _ _ refl)
 
 pub write_entry-change-requires : goal.write_entry-change-requires
 write_entry-change-requires c =
@@ -309,47 +130,14 @@ write_entry-change-requires c =
     let loop = c.loop-i in
     let index = c.index_of-index in
     let kind = c.in-Raft.kind in
-    let p = c.in-At.p in
+    let p = c.in-Ok.p in
     let r = get_or args.records loop.i no_record in
     let h = head_at loop.t p in
     let m = rw c.in-Raft.is at c.admit.ensures in
     let linked = loop.invariant.3.running.ready.linked in
-    let held = found_of loop.t kind _ _ _ _ loop.invariant.4 c.owner-identity.ensures c.find.ensures c.in-At.is in
+    let held = found_of loop.t kind _ _ _ c.owner-identity.ensures c.find.ensures c.in-Ok.is in
     let below = at_below loop.t (owner_of kind) _ held in
-    replayable_of h _ kind _ _ args.lent.now c.in-Entry.is (settleable_at loop.t loop.store p kind r.lsn args.lent.now linked below m.3 _ (place_is h p kind r.body _ _ index.ensures m.2 c.look.ensures))
-
-pub offset_bounds-t-q-in-Entry : goal.offset_bounds-t-q-in-Entry
-offset_bounds-t-q-in-Entry c =
-    let loop = c.loop-i in
-    let kind = c.in-Raft.kind in
-    let p = c.in-At.p in
-    let h = head_at loop.t p in
-    let linked = loop.invariant.3.running.ready.linked in
-    let held = found_of loop.t kind _ _ _ _ loop.invariant.4 c.owner-identity.ensures c.find.ensures c.in-At.is in
-    let below = at_below loop.t (owner_of kind) _ held in
-    record { fits = omega (arith, below, linked.few, look_in h _ _ c.look.ensures) }
-
-pub bounds-t-q-in-Entry : goal.bounds-t-q-in-Entry
-bounds-t-q-in-Entry c =
-    let loop = c.loop-i in
-    let kind = c.in-Raft.kind in
-    let p = c.in-At.p in
-    let h = head_at loop.t p in
-    let linked = loop.invariant.3.running.ready.linked in
-    let held = found_of loop.t kind _ _ _ _ loop.invariant.4 c.owner-identity.ensures c.find.ensures c.in-At.is in
-    let below = at_below loop.t (owner_of kind) _ held in
-    omega (arith, below, linked.few, look_in h _ _ c.look.ensures)
-
-pub overflow_add-i-in-Entry : goal.overflow_add-i-in-Entry
-overflow_add-i-in-Entry c =
-    let loop = c.loop-i in
-    let loop-test = c.loop-i-test in
-    record { fits = omega (arith, loop-test.true, loop.invariant.0) }
-
-pub loop-i-smaller-in-Entry : goal.loop-i-smaller-in-Entry
-loop-i-smaller-in-Entry c =
-    let loop-test = c.loop-i-test in
-    omega (arith, loop-test.true)
+    replayable_of h _ kind _ _ args.lent.now c.in-Entry.is (settleable_at loop.t loop.store p kind r.lsn args.lent.now linked below m.3 _ (place_is h p kind r.body _ _ index.ensures m.2 c.look.ensures.place))
 
 pub loop-i-preserved-in-Entry : goal.loop-i-preserved-in-Entry
 loop-i-preserved-in-Entry c =
@@ -358,91 +146,39 @@ loop-i-preserved-in-Entry c =
     let loop-test = c.loop-i-test in
     let index = c.index_of-index in
     let kind = c.in-Raft.kind in
-    let p = c.in-At.p in
+    let p = c.in-Ok.p in
     let r = get_or args.records loop.i no_record in
     let h = head_at loop.t p in
     let m = rw c.in-Raft.is at c.admit.ensures in
     let linked = loop.invariant.3.running.ready.linked in
-    let held = found_of loop.t kind _ _ _ _ loop.invariant.4 c.owner-identity.ensures c.find.ensures c.in-At.is in
+    let held = found_of loop.t kind _ _ _ c.owner-identity.ensures c.find.ensures c.in-Ok.is in
     let below = at_below loop.t (owner_of kind) _ held in
     let d = c.write_entry-change.result in
     let ys = c.write_entry-change.new.block in
     let taken : Change = record { answer = d.answer; head = c.with_entry-after.result; entry = d.entry; dropped = d.dropped } in
-    let made = entry_planned h (get_or loop.t.entries (64 * p + c.look.result) no_entry) (get_or loop.t.entries (64 * p + c.look_before.result) no_entry) kind _ c.in-Entry.is r.lsn _ args.lent.now c.decide-outcome.result c.decide-outcome.ensures d ys _ c.with_entry-after.result c.write_entry-change.ensures (λ w e. c.in_default.not-Refused w e) c.len_after-len.ensures c.with_entry-after.ensures in
+    let made = entry_planned h (get_or loop.t.entries (64 * p + c.look.result) no_entry) (get_or loop.t.entries (64 * p + c.look_before.result) no_entry) kind _ c.in-Entry.is r.lsn _ args.lent.now c.decide-outcome.result c.decide-outcome.ensures d ys _ c.with_entry-after.result c.write_entry-change.ensures (λ w e. c.in_default.not-Err w e) c.len_after-len.ensures c.with_entry-after.ensures in
     let x = chunk_takes _ args.state args.store.now _ args.lent.now loop.t loop.store (answer_of loop.answer) loop.i loop.invariant.3 loop-test.true no_record r (at_take args.records _ loop.i no_record loop-test.true) (index_fits_lem r _ index.ensures index.type_inv) _
-    (stepped_held loop.t loop.store r args.lent.now m.0 kind m.2 m.3 p held ∙ settled_here loop.t loop.store p kind r.lsn args.lent.now _ _ (place_is h p kind r.body _ _ index.ensures m.2 c.look.ensures) (place_before h p kind r.body _ _ index.ensures m.2 c.look_before.ensures) taken ys made (c.write_entry-change.auto.block ∙ lent_length loop.store p (omega (arith, below, linked.few)) linked.size) _ m.1 (entry_drops c.decide-outcome.result d ys h (get_or loop.t.entries (64 * p + c.look.result) no_entry) _ r.lsn _ args.lent.now c.write_entry-change.ensures))
-    (entry_accepted c.decide-outcome.result d ys h (get_or loop.t.entries (64 * p + c.look.result) no_entry) _ r.lsn _ args.lent.now c.write_entry-change.ensures (λ w e. c.in_default.not-Refused w e)) in
-    (loop.invariant.0, omega (arith, loop-test.true), chunk_size _ _ _ _ _ _ _ _ _ x, x, owners_kept loop.t p _ taken ys (get_or loop.t.entries (64 * p + c.look.result) no_entry) (get_or loop.t.entries (64 * p + c.look_before.result) no_entry) kind r.lsn _ args.lent.now loop.invariant.4 made)
+    (stepped_held loop.t loop.store r args.lent.now m.0 kind m.2 m.3 p held ∙ settled_here loop.t loop.store p kind r.lsn args.lent.now _ _ (place_is h p kind r.body _ _ index.ensures m.2 c.look.ensures.place) (place_before h p kind r.body _ _ index.ensures m.2 c.look_before.ensures.place) taken ys made (c.write_entry-change.auto.block ∙ lent_length loop.store p (omega (arith, below, linked.few)) linked.size) _ m.1 (entry_drops c.decide-outcome.result d ys h (get_or loop.t.entries (64 * p + c.look.result) no_entry) _ r.lsn _ args.lent.now c.write_entry-change.ensures))
+    (entry_accepted c.decide-outcome.result d ys h (get_or loop.t.entries (64 * p + c.look.result) no_entry) _ r.lsn _ args.lent.now c.write_entry-change.ensures (λ w e. c.in_default.not-Err w e)) in
+    (loop.invariant.0, omega (arith, loop-test.true), chunk_size _ _ _ _ _ _ _ _ _ x, x)
 
-pub offset_bounds-t-p-in-HardState : goal.offset_bounds-t-p-in-HardState
-offset_bounds-t-p-in-HardState c =
-    let loop = c.loop-i in
-    let kind = c.in-Raft.kind in
-    let linked = loop.invariant.3.running.ready.linked in
-    let held = found_of loop.t kind _ _ _ _ loop.invariant.4 c.owner-identity.ensures c.find.ensures c.in-At.is in
-    let below = at_below loop.t (owner_of kind) _ held in
-    record { fits = omega (arith, below, linked.few) }
-
-pub bounds-t-p-in-HardState : goal.bounds-t-p-in-HardState
-bounds-t-p-in-HardState c =
-    let loop = c.loop-i in
-    let kind = c.in-Raft.kind in
-    let linked = loop.invariant.3.running.ready.linked in
-    let held = found_of loop.t kind _ _ _ _ loop.invariant.4 c.owner-identity.ensures c.find.ensures c.in-At.is in
-    let below = at_below loop.t (owner_of kind) _ held in
-    omega (arith, below, linked.few)
-
-pub shape_of-store-in-Refused-decide_hard_state : goal.shape_of-store-in-Refused-decide_hard_state
-shape_of-store-in-Refused-decide_hard_state c =
-    let loop = c.loop-i in
-    loop.invariant.2
-
-pub returns-in-Refused-decide_hard_state : goal.returns-in-Refused-decide_hard_state
-returns-in-Refused-decide_hard_state c =
+pub returns-in-Err-decide_hard_state : goal.returns-in-Err-decide_hard_state
+returns-in-Err-decide_hard_state c =
     let args = c.args in
     let loop = c.loop-i in
     let loop-test = c.loop-i-test in
     let index = c.index_of-index in
     let kind = c.in-Raft.kind in
-    let p = c.in-At.p in
+    let p = c.in-Ok.p in
     let r = get_or args.records loop.i no_record in
     let h = head_at loop.t p in
     let m = rw c.in-Raft.is at c.admit.ensures in
     let linked = loop.invariant.3.running.ready.linked in
-    let held = found_of loop.t kind _ _ _ _ loop.invariant.4 c.owner-identity.ensures c.find.ensures c.in-At.is in
+    let held = found_of loop.t kind _ _ _ c.owner-identity.ensures c.find.ensures c.in-Ok.is in
     let below = at_below loop.t (owner_of kind) _ held in
     runs_most args.state args.store.now args.records args.lent.now _ args.count _ _ c.at_most-n.ensures
     (chunk_refused _ args.state args.store.now _ args.lent.now loop.t loop.store (answer_of loop.answer) loop.i loop.invariant.3 loop-test.true no_record r (at_take args.records _ loop.i no_record loop-test.true) (index_fits_lem r _ index.ensures index.type_inv) _
-    (stepped_held loop.t loop.store r args.lent.now m.0 kind m.2 m.3 p held ∙ nothing loop.t loop.store p kind r.lsn args.lent.now (omega (arith, below, linked.few)) linked.size _ m.1 _ (hard_refuses h (get_or loop.t.entries (64 * p + look_of h (index_of kind)) no_entry) (get_or loop.t.entries (64 * p + look_of h (index_of kind - 1)) no_entry) kind _ c.in-HardState.is r.lsn _ args.lent.now _ (sym c.decide_hard_state.ensures ∙ ap checked_of c.in-Refused-decide_hard_state.is))) _ refl _ _ refl)
-
-pub offset_bounds-t-p-in-HardState-2 : goal.offset_bounds-t-p-in-HardState-2
-offset_bounds-t-p-in-HardState-2 c =
-    let loop = c.loop-i in
-    let kind = c.in-Raft.kind in
-    let linked = loop.invariant.3.running.ready.linked in
-    let held = found_of loop.t kind _ _ _ _ loop.invariant.4 c.owner-identity.ensures c.find.ensures c.in-At.is in
-    let below = at_below loop.t (owner_of kind) _ held in
-    record { fits = omega (arith, below, linked.few) }
-
-pub bounds-t-p-in-HardState-2 : goal.bounds-t-p-in-HardState-2
-bounds-t-p-in-HardState-2 c =
-    let loop = c.loop-i in
-    let kind = c.in-Raft.kind in
-    let linked = loop.invariant.3.running.ready.linked in
-    let held = found_of loop.t kind _ _ _ _ loop.invariant.4 c.owner-identity.ensures c.find.ensures c.in-At.is in
-    let below = at_below loop.t (owner_of kind) _ held in
-    omega (arith, below, linked.few)
-
-pub overflow_add-i-in-HardState : goal.overflow_add-i-in-HardState
-overflow_add-i-in-HardState c =
-    let loop = c.loop-i in
-    let loop-test = c.loop-i-test in
-    record { fits = omega (arith, loop-test.true, loop.invariant.0) }
-
-pub loop-i-smaller-in-HardState : goal.loop-i-smaller-in-HardState
-loop-i-smaller-in-HardState c =
-    let loop-test = c.loop-i-test in
-    omega (arith, loop-test.true)
+    (stepped_held loop.t loop.store r args.lent.now m.0 kind m.2 m.3 p held ∙ nothing loop.t loop.store p kind r.lsn args.lent.now (omega (arith, below, linked.few)) linked.size _ m.1 _ (hard_refuses h (get_or loop.t.entries (64 * p + look_of h (index_of kind)) no_entry) (get_or loop.t.entries (64 * p + look_of h (index_of kind - 1)) no_entry) kind _ c.in-HardState.is r.lsn _ args.lent.now _ (sym c.decide_hard_state.ensures ∙ ap checked_of c.in-Err-decide_hard_state.is))) _ refl _ _ refl)
 
 pub loop-i-preserved-in-HardState : goal.loop-i-preserved-in-HardState
 loop-i-preserved-in-HardState c =
@@ -451,182 +187,30 @@ loop-i-preserved-in-HardState c =
     let loop-test = c.loop-i-test in
     let index = c.index_of-index in
     let kind = c.in-Raft.kind in
-    let p = c.in-At.p in
+    let p = c.in-Ok.p in
     let r = get_or args.records loop.i no_record in
     let h = head_at loop.t p in
     let m = rw c.in-Raft.is at c.admit.ensures in
     let linked = loop.invariant.3.running.ready.linked in
-    let held = found_of loop.t kind _ _ _ _ loop.invariant.4 c.owner-identity.ensures c.find.ensures c.in-At.is in
+    let held = found_of loop.t kind _ _ _ c.owner-identity.ensures c.find.ensures c.in-Ok.is in
     let below = at_below loop.t (owner_of kind) _ held in
     let x = chunk_takes _ args.state args.store.now _ args.lent.now loop.t loop.store (answer_of loop.answer) loop.i loop.invariant.3 loop-test.true no_record r (at_take args.records _ loop.i no_record loop-test.true) (index_fits_lem r _ index.ensures index.type_inv) _
     (stepped_held loop.t loop.store r args.lent.now m.0 kind m.2 m.3 p held ∙ only_head loop.t loop.store p kind r.lsn args.lent.now (omega (arith, below, linked.few)) linked.size _ m.1 D.kept _ (hard_keeps h (get_or loop.t.entries (64 * p + look_of h (index_of kind)) no_entry) (get_or loop.t.entries (64 * p + look_of h (index_of kind - 1)) no_entry) kind _ c.in-HardState.is r.lsn _ args.lent.now _ (sym c.decide_hard_state.ensures ∙ ap checked_of c.in_default-decide_hard_state.is) c.with_hard_state-after.ensures)) refl in
-    (loop.invariant.0, omega (arith, loop-test.true), loop.invariant.2, x, loop.invariant.4 ∙ sym (owners_set loop.t.heads p _ (ap (λ (x : Header). x.identity) c.with_hard_state-after.ensures)))
+    (loop.invariant.0, omega (arith, loop-test.true), loop.invariant.2, x)
 
-pub offset_bounds-t-p-in-SnapshotPointer : goal.offset_bounds-t-p-in-SnapshotPointer
-offset_bounds-t-p-in-SnapshotPointer c =
-    let loop = c.loop-i in
-    let kind = c.in-Raft.kind in
-    let linked = loop.invariant.3.running.ready.linked in
-    let held = found_of loop.t kind _ _ _ _ loop.invariant.4 c.owner-identity.ensures c.find.ensures c.in-At.is in
-    let below = at_below loop.t (owner_of kind) _ held in
-    record { fits = omega (arith, below, linked.few) }
-
-pub bounds-t-p-in-SnapshotPointer : goal.bounds-t-p-in-SnapshotPointer
-bounds-t-p-in-SnapshotPointer c =
-    let loop = c.loop-i in
-    let kind = c.in-Raft.kind in
-    let linked = loop.invariant.3.running.ready.linked in
-    let held = found_of loop.t kind _ _ _ _ loop.invariant.4 c.owner-identity.ensures c.find.ensures c.in-At.is in
-    let below = at_below loop.t (owner_of kind) _ held in
-    omega (arith, below, linked.few)
-
-pub overflow_mul-q-in-SnapshotPointer : goal.overflow_mul-q-in-SnapshotPointer
-overflow_mul-q-in-SnapshotPointer c =
-    let loop = c.loop-i in
-    let kind = c.in-Raft.kind in
-    let linked = loop.invariant.3.running.ready.linked in
-    let held = found_of loop.t kind _ _ _ _ loop.invariant.4 c.owner-identity.ensures c.find.ensures c.in-At.is in
-    let below = at_below loop.t (owner_of kind) _ held in
-    record { fits = omega (arith, below, linked.few) }
-
-pub overflow_add-q-in-SnapshotPointer : goal.overflow_add-q-in-SnapshotPointer
-overflow_add-q-in-SnapshotPointer c =
-    let loop = c.loop-i in
-    let kind = c.in-Raft.kind in
-    let p = c.in-At.p in
-    let h = head_at loop.t p in
-    let linked = loop.invariant.3.running.ready.linked in
-    let held = found_of loop.t kind _ _ _ _ loop.invariant.4 c.owner-identity.ensures c.find.ensures c.in-At.is in
-    let below = at_below loop.t (owner_of kind) _ held in
-    record { fits = omega (arith, below, linked.few, look_in h _ _ c.look-in-SnapshotPointer.ensures) }
-
-pub offset_bounds-t-q-in-SnapshotPointer : goal.offset_bounds-t-q-in-SnapshotPointer
-offset_bounds-t-q-in-SnapshotPointer c =
-    let loop = c.loop-i in
-    let kind = c.in-Raft.kind in
-    let p = c.in-At.p in
-    let h = head_at loop.t p in
-    let linked = loop.invariant.3.running.ready.linked in
-    let held = found_of loop.t kind _ _ _ _ loop.invariant.4 c.owner-identity.ensures c.find.ensures c.in-At.is in
-    let below = at_below loop.t (owner_of kind) _ held in
-    record { fits = omega (arith, below, linked.few, look_in h _ _ c.look-in-SnapshotPointer.ensures) }
-
-pub bounds-t-q-in-SnapshotPointer : goal.bounds-t-q-in-SnapshotPointer
-bounds-t-q-in-SnapshotPointer c =
-    let loop = c.loop-i in
-    let kind = c.in-Raft.kind in
-    let p = c.in-At.p in
-    let h = head_at loop.t p in
-    let linked = loop.invariant.3.running.ready.linked in
-    let held = found_of loop.t kind _ _ _ _ loop.invariant.4 c.owner-identity.ensures c.find.ensures c.in-At.is in
-    let below = at_below loop.t (owner_of kind) _ held in
-    omega (arith, below, linked.few, look_in h _ _ c.look-in-SnapshotPointer.ensures)
-
-pub overflow_mul-at-in-SnapshotPointer : goal.overflow_mul-at-in-SnapshotPointer
-overflow_mul-at-in-SnapshotPointer c =
-    let loop = c.loop-i in
-    let kind = c.in-Raft.kind in
-    let linked = loop.invariant.3.running.ready.linked in
-    let held = found_of loop.t kind _ _ _ _ loop.invariant.4 c.owner-identity.ensures c.find.ensures c.in-At.is in
-    let below = at_below loop.t (owner_of kind) _ held in
-    record { fits = omega (arith, below, linked.few) }
-
-pub overflow_add-end-in-SnapshotPointer : goal.overflow_add-end-in-SnapshotPointer
-overflow_add-end-in-SnapshotPointer c =
-    let loop = c.loop-i in
-    let kind = c.in-Raft.kind in
-    let linked = loop.invariant.3.running.ready.linked in
-    let held = found_of loop.t kind _ _ _ _ loop.invariant.4 c.owner-identity.ensures c.find.ensures c.in-At.is in
-    let below = at_below loop.t (owner_of kind) _ held in
-    record { fits = omega (arith, below, linked.few) }
-
-pub slice_bounds-install_snapshot-end : goal.slice_bounds-install_snapshot-end
-slice_bounds-install_snapshot-end c =
-    let loop = c.loop-i in
-    let kind = c.in-Raft.kind in
-    let linked = loop.invariant.3.running.ready.linked in
-    let held = found_of loop.t kind _ _ _ _ loop.invariant.4 c.owner-identity.ensures c.find.ensures c.in-At.is in
-    let below = at_below loop.t (owner_of kind) _ held in
-    omega (arith, below, linked.few, linked.size)
-
-pub install_snapshot-change-requires : goal.install_snapshot-change-requires
-install_snapshot-change-requires c =
-    let args = c.args in
-    let loop = c.loop-i in
-    let index = c.index_of-index in
-    let kind = c.in-Raft.kind in
-    let p = c.in-At.p in
-    let r = get_or args.records loop.i no_record in
-    let h = head_at loop.t p in
-    let m = rw c.in-Raft.is at c.admit.ensures in
-    let linked = loop.invariant.3.running.ready.linked in
-    let held = found_of loop.t kind _ _ _ _ loop.invariant.4 c.owner-identity.ensures c.find.ensures c.in-At.is in
-    let below = at_below loop.t (owner_of kind) _ held in
-    installable_of h _ kind _ _ args.lent.now c.in-SnapshotPointer.is (settleable_at loop.t loop.store p kind r.lsn args.lent.now linked below m.3 _ (place_is h p kind r.body _ _ index.ensures m.2 c.look-in-SnapshotPointer.ensures))
-
-pub offset_bounds-t-p-in-SnapshotPointer-2 : goal.offset_bounds-t-p-in-SnapshotPointer-2
-offset_bounds-t-p-in-SnapshotPointer-2 c =
-    let loop = c.loop-i in
-    let kind = c.in-Raft.kind in
-    let linked = loop.invariant.3.running.ready.linked in
-    let held = found_of loop.t kind _ _ _ _ loop.invariant.4 c.owner-identity.ensures c.find.ensures c.in-At.is in
-    let below = at_below loop.t (owner_of kind) _ held in
-    record { fits = omega (arith, below, linked.few) }
-
-pub bounds-t-p-in-SnapshotPointer-2 : goal.bounds-t-p-in-SnapshotPointer-2
-bounds-t-p-in-SnapshotPointer-2 c =
-    let loop = c.loop-i in
-    let kind = c.in-Raft.kind in
-    let linked = loop.invariant.3.running.ready.linked in
-    let held = found_of loop.t kind _ _ _ _ loop.invariant.4 c.owner-identity.ensures c.find.ensures c.in-At.is in
-    let below = at_below loop.t (owner_of kind) _ held in
-    omega (arith, below, linked.few)
-
-pub offset_bounds-t-q-in-SnapshotPointer-2 : goal.offset_bounds-t-q-in-SnapshotPointer-2
-offset_bounds-t-q-in-SnapshotPointer-2 c =
-    let loop = c.loop-i in
-    let kind = c.in-Raft.kind in
-    let p = c.in-At.p in
-    let h = head_at loop.t p in
-    let linked = loop.invariant.3.running.ready.linked in
-    let held = found_of loop.t kind _ _ _ _ loop.invariant.4 c.owner-identity.ensures c.find.ensures c.in-At.is in
-    let below = at_below loop.t (owner_of kind) _ held in
-    record { fits = omega (arith, below, linked.few, look_in h _ _ c.look-in-SnapshotPointer.ensures) }
-
-pub bounds-t-q-in-SnapshotPointer-2 : goal.bounds-t-q-in-SnapshotPointer-2
-bounds-t-q-in-SnapshotPointer-2 c =
-    let loop = c.loop-i in
-    let kind = c.in-Raft.kind in
-    let p = c.in-At.p in
-    let h = head_at loop.t p in
-    let linked = loop.invariant.3.running.ready.linked in
-    let held = found_of loop.t kind _ _ _ _ loop.invariant.4 c.owner-identity.ensures c.find.ensures c.in-At.is in
-    let below = at_below loop.t (owner_of kind) _ held in
-    omega (arith, below, linked.few, look_in h _ _ c.look-in-SnapshotPointer.ensures)
-
-pub shape_of-store-in-Refused-answer : goal.shape_of-store-in-Refused-answer
-shape_of-store-in-Refused-answer c =
-    let loop = c.loop-i in
-    let kind = c.in-Raft.kind in
-    let p = c.in-At.p in
-    let linked = loop.invariant.3.running.ready.linked in
-    let held = found_of loop.t kind _ _ _ _ loop.invariant.4 c.owner-identity.ensures c.find.ensures c.in-At.is in
-    let below = at_below loop.t (owner_of kind) _ held in
-    back_length loop.store p c.install_snapshot-change.new.block (omega (arith, below, linked.few)) linked.size (c.install_snapshot-change.auto.block ∙ lent_length loop.store p (omega (arith, below, linked.few)) linked.size) ∙ loop.invariant.2
-
-pub returns-in-Refused-answer : goal.returns-in-Refused-answer
-returns-in-Refused-answer c =
+pub returns-in-Err-answer : goal.returns-in-Err-answer
+returns-in-Err-answer c =
     let args = c.args in
     let loop = c.loop-i in
     let loop-test = c.loop-i-test in
     let index = c.index_of-index in
     let kind = c.in-Raft.kind in
-    let p = c.in-At.p in
+    let p = c.in-Ok.p in
     let r = get_or args.records loop.i no_record in
     let h = head_at loop.t p in
     let m = rw c.in-Raft.is at c.admit.ensures in
     let linked = loop.invariant.3.running.ready.linked in
-    let held = found_of loop.t kind _ _ _ _ loop.invariant.4 c.owner-identity.ensures c.find.ensures c.in-At.is in
+    let held = found_of loop.t kind _ _ _ c.owner-identity.ensures c.find.ensures c.in-Ok.is in
     let below = at_below loop.t (owner_of kind) _ held in
     let d = c.install_snapshot-change.result in
     let ys = c.install_snapshot-change.new.block in
@@ -634,35 +218,24 @@ returns-in-Refused-answer c =
     let made = pointer_planned h (get_or loop.t.entries (64 * p + c.look-in-SnapshotPointer.result) no_entry) (get_or loop.t.entries other no_entry) kind _ r.lsn _ args.lent.now d ys c.in-SnapshotPointer.is c.install_snapshot-change.ensures in
     runs_most args.state args.store.now args.records args.lent.now _ args.count _ _ c.at_most-n.ensures
     (chunk_refused _ args.state args.store.now _ args.lent.now loop.t loop.store (answer_of loop.answer) loop.i loop.invariant.3 loop-test.true no_record r (at_take args.records _ loop.i no_record loop-test.true) (index_fits_lem r _ index.ensures index.type_inv) _
-    (stepped_held loop.t loop.store r args.lent.now m.0 kind m.2 m.3 p held ∙ settled_here loop.t loop.store p kind r.lsn args.lent.now _ other (place_is h p kind r.body _ _ index.ensures m.2 c.look-in-SnapshotPointer.ensures) refl d ys made (c.install_snapshot-change.auto.block ∙ lent_length loop.store p (omega (arith, below, linked.few)) linked.size) _ m.1 (refused_drops d ys h (get_or loop.t.entries (64 * p + c.look-in-SnapshotPointer.result) no_entry) (get_or loop.t.entries other no_entry) kind r.lsn _ args.lent.now _ made (ap answer_of c.in-Refused-answer.is))) _ (ap answer_of c.in-Refused-answer.is) _ _ (ran_answer _ _ _ _ _ c.in-Refused-answer.is))
-
-pub overflow_add-i-in-SnapshotPointer : goal.overflow_add-i-in-SnapshotPointer
-overflow_add-i-in-SnapshotPointer c =
-    let loop = c.loop-i in
-    let loop-test = c.loop-i-test in
-    record { fits = omega (arith, loop-test.true, loop.invariant.0) }
+    (stepped_held loop.t loop.store r args.lent.now m.0 kind m.2 m.3 p held ∙ settled_here loop.t loop.store p kind r.lsn args.lent.now _ other (place_is h p kind r.body _ _ index.ensures m.2 c.look-in-SnapshotPointer.ensures.place) refl d ys made (c.install_snapshot-change.auto.block ∙ lent_length loop.store p (omega (arith, below, linked.few)) linked.size) _ m.1 (refused_drops d ys h (get_or loop.t.entries (64 * p + c.look-in-SnapshotPointer.result) no_entry) (get_or loop.t.entries other no_entry) kind r.lsn _ args.lent.now _ made (ap answer_of c.in-Err-answer.is))) _ (ap answer_of c.in-Err-answer.is) _ _ (ran_answer _ _ _ _ _ c.in-Err-answer.is))
 
 pub loop-j-init : goal.loop-j-init
 loop-j-init c =
     let args = c.args in
     let loop = c.loop-i in
     let kind = c.in-Raft.kind in
-    let p = c.in-At.p in
+    let p = c.in-Ok.p in
     let r = get_or args.records loop.i no_record in
     let h = head_at loop.t p in
     let linked = loop.invariant.3.running.ready.linked in
-    let held = found_of loop.t kind _ _ _ _ loop.invariant.4 c.owner-identity.ensures c.find.ensures c.in-At.is in
+    let held = found_of loop.t kind _ _ _ c.owner-identity.ensures c.find.ensures c.in-Ok.is in
     let below = at_below loop.t (owner_of kind) _ held in
     let d = c.install_snapshot-change.result in
     let ys = c.install_snapshot-change.new.block in
     let other = 64 * p + look_of h (index_of kind - 1) in
     let made = pointer_planned h (get_or loop.t.entries (64 * p + c.look-in-SnapshotPointer.result) no_entry) (get_or loop.t.entries other no_entry) kind _ r.lsn _ args.lent.now d ys c.in-SnapshotPointer.is c.install_snapshot-change.ensures in
     (omega arith, down_none _ _ (64 * p + d.dropped), length-set loop.t.entries _ _ ∙ linked.all, omega (arith, below, linked.few, moved_fits d ys h (get_or loop.t.entries (64 * p + c.look-in-SnapshotPointer.result) no_entry) (get_or loop.t.entries other no_entry) kind r.lsn _ args.lent.now made c.if-change-gt0.true (linked.own _ below).short))
-
-pub loop-i-smaller-in-loop-j : goal.loop-i-smaller-in-loop-j
-loop-i-smaller-in-loop-j c =
-    let loop-test = c.loop-i-test in
-    let e = ap (λ (t : RecoveredRaftStorage). t.held) c.loop-j.invariant.1 in omega (arith, e, loop-test.true)
 
 pub loop-i-preserved-in-loop-j : goal.loop-i-preserved-in-loop-j
 loop-i-preserved-in-loop-j c =
@@ -671,12 +244,12 @@ loop-i-preserved-in-loop-j c =
     let loop-test = c.loop-i-test in
     let index = c.index_of-index in
     let kind = c.in-Raft.kind in
-    let p = c.in-At.p in
+    let p = c.in-Ok.p in
     let r = get_or args.records loop.i no_record in
     let h = head_at loop.t p in
     let m = rw c.in-Raft.is at c.admit.ensures in
     let linked = loop.invariant.3.running.ready.linked in
-    let held = found_of loop.t kind _ _ _ _ loop.invariant.4 c.owner-identity.ensures c.find.ensures c.in-At.is in
+    let held = found_of loop.t kind _ _ _ c.owner-identity.ensures c.find.ensures c.in-Ok.is in
     let below = at_below loop.t (owner_of kind) _ held in
     let d = c.install_snapshot-change.result in
     let ys = c.install_snapshot-change.new.block in
@@ -684,75 +257,17 @@ loop-i-preserved-in-loop-j c =
     let made = pointer_planned h (get_or loop.t.entries (64 * p + c.look-in-SnapshotPointer.result) no_entry) (get_or loop.t.entries other no_entry) kind _ r.lsn _ args.lent.now d ys c.in-SnapshotPointer.is c.install_snapshot-change.ensures in
     let loop2 = c.loop-j in
     let x = chunk_takes _ args.state args.store.now _ args.lent.now loop.t loop.store (answer_of loop.answer) loop.i loop.invariant.3 loop-test.true no_record r (at_take args.records _ loop.i no_record loop-test.true) (index_fits_lem r _ index.ensures index.type_inv) _
-    (stepped_held loop.t loop.store r args.lent.now m.0 kind m.2 m.3 p held ∙ settled_moved loop.t loop.store p kind r.lsn args.lent.now _ other (place_is h p kind r.body _ _ index.ensures m.2 c.look-in-SnapshotPointer.ensures) refl d ys made (c.install_snapshot-change.auto.block ∙ lent_length loop.store p (omega (arith, below, linked.few)) linked.size) _ m.1 c.if-change-gt0.true) (not_refused d.answer (λ w e. c.in_default-answer.not-Refused w e)) in
+    (stepped_held loop.t loop.store r args.lent.now m.0 kind m.2 m.3 p held ∙ settled_moved loop.t loop.store p kind r.lsn args.lent.now _ other (place_is h p kind r.body _ _ index.ensures m.2 c.look-in-SnapshotPointer.ensures.place) refl d ys made (c.install_snapshot-change.auto.block ∙ lent_length loop.store p (omega (arith, below, linked.few)) linked.size) _ m.1 c.if-change-gt0.true) (not_refused d.answer (λ w e. c.in_default-answer.not-Err w e)) in
     let all : loop2.j ≡ d.head.len = omega (arith, c.loop-j-test.false, loop2.invariant.0) in
     let moved = rw all at loop2.invariant.1 in
     let y = chunk_at _ args.state args.store.now _ args.lent.now _ _ _ _ (answer_of d.answer) (loop.i + 1) moved refl x in
-    (loop.invariant.0, omega (arith, loop-test.true), chunk_size _ _ _ _ _ _ _ _ _ y, y, owners_kept loop.t p _ d ys (get_or loop.t.entries (64 * p + c.look-in-SnapshotPointer.result) no_entry) (get_or loop.t.entries other no_entry) kind r.lsn _ args.lent.now loop.invariant.4 made ∙ ap (λ (t : RecoveredRaftStorage). owners_of t.heads) (sym moved))
-
-pub overflow_mul-moved : goal.overflow_mul-moved
-overflow_mul-moved c =
-    let loop2 = c.loop-j in
-    record { fits = omega (arith, loop2.invariant.3, loop2.invariant.0, c.loop-j-test.true) }
-
-pub overflow_add-moved : goal.overflow_add-moved
-overflow_add-moved c =
-    let loop2 = c.loop-j in
-    record { fits = omega (arith, loop2.invariant.3, loop2.invariant.0, c.loop-j-test.true) }
-
-pub overflow_add-moved-in-loop-j : goal.overflow_add-moved-in-loop-j
-overflow_add-moved-in-loop-j c =
-    let loop2 = c.loop-j in
-    record { fits = omega (arith, loop2.invariant.3, loop2.invariant.0, c.loop-j-test.true) }
-
-pub offset_bounds-t-p-in-loop-j : goal.offset_bounds-t-p-in-loop-j
-offset_bounds-t-p-in-loop-j c =
-    let loop2 = c.loop-j in
-    record { fits = omega (arith, loop2.invariant.3, loop2.invariant.0, c.loop-j-test.true) }
-
-pub bounds-t-p-in-loop-j : goal.bounds-t-p-in-loop-j
-bounds-t-p-in-loop-j c =
-    let loop2 = c.loop-j in
-    omega (arith, loop2.invariant.3, loop2.invariant.0, c.loop-j-test.true)
-
-pub overflow_mul-moved-in-loop-j : goal.overflow_mul-moved-in-loop-j
-overflow_mul-moved-in-loop-j c =
-    let loop2 = c.loop-j in
-    record { fits = omega (arith, loop2.invariant.3, loop2.invariant.0, c.loop-j-test.true) }
-
-pub overflow_add-moved-in-loop-j-2 : goal.overflow_add-moved-in-loop-j-2
-overflow_add-moved-in-loop-j-2 c =
-    let loop2 = c.loop-j in
-    record { fits = omega (arith, loop2.invariant.3, loop2.invariant.0, c.loop-j-test.true) }
-
-pub offset_bounds-t-p-in-loop-j-2 : goal.offset_bounds-t-p-in-loop-j-2
-offset_bounds-t-p-in-loop-j-2 c =
-    let loop2 = c.loop-j in
-    record { fits = omega (arith, loop2.invariant.3, loop2.invariant.0, c.loop-j-test.true) }
-
-pub bounds-t-p-in-loop-j-2 : goal.bounds-t-p-in-loop-j-2
-bounds-t-p-in-loop-j-2 c =
-    let loop2 = c.loop-j in
-    omega (arith, loop2.invariant.3, loop2.invariant.0, c.loop-j-test.true)
-
-pub overflow_add-j : goal.overflow_add-j
-overflow_add-j c =
-    record { fits = omega (arith, c.loop-j-test.true, c.loop-j.invariant.0, c.loop-j.invariant.3) }
-
-pub loop-j-smaller : goal.loop-j-smaller
-loop-j-smaller c =
-    omega (arith, c.loop-j-test.true)
+    (loop.invariant.0, omega (arith, loop-test.true), chunk_size _ _ _ _ _ _ _ _ _ y, y)
 
 pub loop-j-preserved : goal.loop-j-preserved
 loop-j-preserved c =
-    let p = c.in-At.p in
+    let p = c.in-Ok.p in
     let w = c.loop-j in
     (omega (arith, c.loop-j-test.true), entries_down_turn _ (64 * p) (64 * p + _) w.t w.j w.invariant.1 (omega arith) (omega (arith, w.invariant.2, w.invariant.3, c.loop-j-test.true)), w.invariant.2, w.invariant.3)
-
-pub loop-i-smaller : goal.loop-i-smaller
-loop-i-smaller c =
-    let loop-test = c.loop-i-test in
-    omega (arith, loop-test.true)
 
 pub loop-i-preserved : goal.loop-i-preserved
 loop-i-preserved c =
@@ -761,20 +276,20 @@ loop-i-preserved c =
     let loop-test = c.loop-i-test in
     let index = c.index_of-index in
     let kind = c.in-Raft.kind in
-    let p = c.in-At.p in
+    let p = c.in-Ok.p in
     let r = get_or args.records loop.i no_record in
     let h = head_at loop.t p in
     let m = rw c.in-Raft.is at c.admit.ensures in
     let linked = loop.invariant.3.running.ready.linked in
-    let held = found_of loop.t kind _ _ _ _ loop.invariant.4 c.owner-identity.ensures c.find.ensures c.in-At.is in
+    let held = found_of loop.t kind _ _ _ c.owner-identity.ensures c.find.ensures c.in-Ok.is in
     let below = at_below loop.t (owner_of kind) _ held in
     let d = c.install_snapshot-change.result in
     let ys = c.install_snapshot-change.new.block in
     let other = 64 * p + look_of h (index_of kind - 1) in
     let made = pointer_planned h (get_or loop.t.entries (64 * p + c.look-in-SnapshotPointer.result) no_entry) (get_or loop.t.entries other no_entry) kind _ r.lsn _ args.lent.now d ys c.in-SnapshotPointer.is c.install_snapshot-change.ensures in
     let x = chunk_takes _ args.state args.store.now _ args.lent.now loop.t loop.store (answer_of loop.answer) loop.i loop.invariant.3 loop-test.true no_record r (at_take args.records _ loop.i no_record loop-test.true) (index_fits_lem r _ index.ensures index.type_inv) _
-    (stepped_held loop.t loop.store r args.lent.now m.0 kind m.2 m.3 p held ∙ settled_here loop.t loop.store p kind r.lsn args.lent.now _ other (place_is h p kind r.body _ _ index.ensures m.2 c.look-in-SnapshotPointer.ensures) refl d ys made (c.install_snapshot-change.auto.block ∙ lent_length loop.store p (omega (arith, below, linked.few)) linked.size) _ m.1 c.if-change-gt0.false) (not_refused d.answer (λ w e. c.in_default-answer.not-Refused w e)) in
-    (loop.invariant.0, omega (arith, loop-test.true), chunk_size _ _ _ _ _ _ _ _ _ x, x, owners_kept loop.t p _ d ys (get_or loop.t.entries (64 * p + c.look-in-SnapshotPointer.result) no_entry) (get_or loop.t.entries other no_entry) kind r.lsn _ args.lent.now loop.invariant.4 made)
+    (stepped_held loop.t loop.store r args.lent.now m.0 kind m.2 m.3 p held ∙ settled_here loop.t loop.store p kind r.lsn args.lent.now _ other (place_is h p kind r.body _ _ index.ensures m.2 c.look-in-SnapshotPointer.ensures.place) refl d ys made (c.install_snapshot-change.auto.block ∙ lent_length loop.store p (omega (arith, below, linked.few)) linked.size) _ m.1 c.if-change-gt0.false) (not_refused d.answer (λ w e. c.in_default-answer.not-Err w e)) in
+    (loop.invariant.0, omega (arith, loop-test.true), chunk_size _ _ _ _ _ _ _ _ _ x, x)
 
 pub returns : goal.returns
 returns c =
