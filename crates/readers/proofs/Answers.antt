@@ -1,11 +1,12 @@
 -- What a reader answers, where state and store are sound and where they are not.
 -- Assumes nothing.
+use Rattle.std.specs.Prelude.{Result, Ok, Err}
 use mathlib.Core.Path.{◌≡◌, refl, sym, ◌∙◌}
 use mathlib.Core.Bool.{Bool, true, false, ◌&&◌, not, true≢false}
 use mathlib.Core.List.{List, [], ◌∷◌}
 use Prim.Native.Nat.{ℕ, ◌≤◌}
 use borrow.Author.Tests.{leb-true}
-use Rattle.definition.specs.Table.{Result, ok, refusal, unless, first_of, ◌when◌}
+use Rattle.definition.specs.Table.{unless, first_of, ◌when◌}
 use Rattle.definition.specs.Recovery.{State, Recovery, sound_state, sound_store, sound, ask}
 use Rattle.definition.proofs.Laws.{all_facts}
 use Rattle.storage.specs.declared.RecoveredRaftStorage.{RecoveredRaftStorage}
@@ -17,28 +18,28 @@ use Rattle.readers.specs.Reads.{Reads}
 
 -- The definition's answer.
 module _ {A : Type 0} (f : State → A) (w : Recovery) where
-  pub ask_sound : sound w ≡ true → ask f w ≡ ok (f w.state)
+  pub ask_sound : sound w ≡ true → ask f w ≡ Ok (f w.state)
   unfolding ask sound
   ask_sound = go (sound_state w.state) (sound_store w)
     where
-      go : (a b : Bool) → (a && b) ≡ true → unless (first_of ((1 when not b) ∷ (1 when not a) ∷ [])) (f w.state) ≡ ok (f w.state)
+      go : (a b : Bool) → (a && b) ≡ true → unless (first_of ((1 when not b) ∷ (1 when not a) ∷ [])) (f w.state) ≡ Ok (f w.state)
       go true true e = refl
       go true false e = absurd (true≢false (sym e))
       go false true e = absurd (true≢false (sym e))
       go false false e = absurd (true≢false (sym e))
 
-  pub ask_unsound : sound w ≡ false → ask f w ≡ refusal 1
+  pub ask_unsound : sound w ≡ false → ask f w ≡ Err 1
   unfolding ask sound
   ask_unsound = go (sound_state w.state) (sound_store w)
     where
-      go : (a b : Bool) → (a && b) ≡ false → unless (first_of ((1 when not b) ∷ (1 when not a) ∷ [])) (f w.state) ≡ refusal 1
+      go : (a b : Bool) → (a && b) ≡ false → unless (first_of ((1 when not b) ∷ (1 when not a) ∷ [])) (f w.state) ≡ Err 1
       go true true e = absurd (true≢false e)
       go true false e = refl
       go false true e = refl
       go false false e = refl
 
-pub reads_whole : {A : Type 0} {s : RecoveredRaftStorage} {st : List ℕ} {f : State → A} {r : Result A} → sound_test s st ≡ true → sound (recovery_of s st) ≡ true
-    → ok (f (meaning s st)) ≡ r → Reads s st f r
+pub reads_whole : {A : Type 0} {s : RecoveredRaftStorage} {st : List ℕ} {f : State → A} {r : Result A ℕ} → sound_test s st ≡ true → sound (recovery_of s st) ≡ true
+    → Ok (f (meaning s st)) ≡ r → Reads s st f r
 reads_whole {s = s} {st = st} {f = f} t w e =
     record {
       means = λ t'. ask_sound f (recovery_of s st) w ∙ e;
@@ -61,11 +62,11 @@ module _ {s : RecoveredRaftStorage} {st : List ℕ} {b : Bool} (k : Passes s st 
   unfolding sound_clauses
   few_held q = leb-true s.held 8 (all_facts (sound_clauses s st) (test_passed q)).1.0
 
-  module _ {A : Type 0} {f : State → A} {r : Result A} where
-    pub reads_sound : b ≡ true → ok (f (meaning s st)) ≡ r → Reads s st f r
+  module _ {A : Type 0} {f : State → A} {r : Result A ℕ} where
+    pub reads_sound : b ≡ true → Ok (f (meaning s st)) ≡ r → Reads s st f r
     reads_sound q e = reads_whole (test_passed q) (whole q) e
 
-    pub reads_unsound : b ≡ false → refusal 1 ≡ r → Reads s st f r
+    pub reads_unsound : b ≡ false → Err 1 ≡ r → Reads s st f r
     reads_unsound q e =
         record {
           means = λ t. absurd (true≢false (sym t ∙ test_failed q));

@@ -1,15 +1,13 @@
 -- A replica by its place and header: what the definition holds for it.
 -- Assumes nothing.
+use Rattle.std.specs.Prelude.{Option, None, Some, unwrap_or, Result, Ok, Err}
 use mathlib.Core.Path.{◌≡◌, refl, sym, ap, subst, ◌∙◌}
 use mathlib.Core.Bool.{Bool, true}
 use mathlib.Core.List.{List}
-use mathlib.Core.Option
-use mathlib.Core.Option.{Option, none, some}
 use Prim.Native.Nat.{ℕ, ◌+◌, ◌*◌, ◌<◌, ◌≤◌}
 use native.Mathlib.Omega.{arith}
 use lib.ListN.{length, get_or}
-use Rattle.definition.specs.Table.{Result, ok, u64_max}
-use Rattle.definition.specs.Records.{Identity}
+use Rattle.definition.specs.Table.{u64_max}
 use Rattle.definition.specs.Log.{Log, empty}
 use Rattle.definition.specs.Recovery.{place_of, ascending, replica_of, sound}
 use Rattle.definition.proofs.Sound.{state_facts}
@@ -22,8 +20,6 @@ use Rattle.view.specs.Meaning.{no_entry, size_of, view_of, base_of, Fits, Means}
 use Rattle.view.specs.Model.{empty_header}
 use Rattle.view.proofs.Head.{empty_view, empty_fits}
 use Rattle.storage.specs.declared.RecoveredRaftStorage.{RecoveredRaftStorage}
-use Rattle.storage.specs.declared.Found.{Found}
-use Rattle.storage.specs.declared.Found.TheVariants as F
 use Rattle.storage.specs.Model.{head_at, entries_in, bytes_in}
 use Rattle.storage.specs.Meaning.{meaning, recovery_of, Linked}
 use Rattle.storage.specs.Finding.{found_at}
@@ -35,10 +31,6 @@ use Rattle.readers.specs.Own.{Passes, own_in, found_place, own_for, block_of}
 use Rattle.readers.specs.Reads.{Reads, place_in}
 use Rattle.readers.proofs.Answers.{test_passed, reads_whole}
 use Rattle.readers.proofs.Kept.{held_block}
-
--- A place that is found is a held one.
-pub found_held : (s : RecoveredRaftStorage) (i : Identity) (p : ℕ) → F.At p ≡ found_at s i → p < s.held
-found_held s i p e = let t : Told s i (F.At p) = rw (← e) at (found_told s i) in t.1
 
 -- What stands at an own place: the log that the definition holds for the replica, within its limits.
 abbrev pub log_in : RecoveredRaftStorage → List ℕ → Own → Log ℕ
@@ -58,16 +50,16 @@ pub record Owns (s : RecoveredRaftStorage) (st : List ℕ) (i : RaftReplicaIdent
   pub means : Means o.head (entries_in s o.place) (block_of st o) (replica_of (identity_of i) (meaning s st))
 
 module _ (s : RecoveredRaftStorage) (st : List ℕ) (i : RaftReplicaIdentity) (e : sound_test s st ≡ true) (k : Sound s st) (l : Linked s st) (asc : ascending (meaning s st).replicas ≡ true) where
-  own_view : (p : ℕ) → Told s (identity_of i) (F.At p) → view_of (head_at s p) (entries_in s p) (bytes_in st p) ≡ replica_of (identity_of i) (meaning s st)
+  own_view : (p : ℕ) → Told s (identity_of i) (Ok p) → view_of (head_at s p) (entries_in s p) (bytes_in st p) ≡ replica_of (identity_of i) (meaning s st)
   unfolding replica_of
-  own_view p t = sym (ap (λ (x : Option (Log ℕ)). Option.get_or x empty) (at_lookup s st (identity_of i) p t))
+  own_view p t = sym (ap (λ (x : Option (Log ℕ)). unwrap_or x empty) (at_lookup s st (identity_of i) p t))
 
-  no_view : (p : ℕ) → Told s (identity_of i) (F.Missing p) → (cs : List ℕ) → view_of (empty_header i) (entries_in s 0) cs ≡ replica_of (identity_of i) (meaning s st)
+  no_view : (p : ℕ) → Told s (identity_of i) (Err p) → (cs : List ℕ) → view_of (empty_header i) (entries_in s 0) cs ≡ replica_of (identity_of i) (meaning s st)
   unfolding replica_of
-  no_view p t cs = empty_view i (entries_in s 0) cs ∙ sym (ap (λ (x : Option (Log ℕ)). Option.get_or x empty) (missing_lookup s st (identity_of i) p asc t))
+  no_view p t cs = empty_view i (entries_in s 0) cs ∙ sym (ap (λ (x : Option (Log ℕ)). unwrap_or x empty) (missing_lookup s st (identity_of i) p asc t))
 
-  owns_found : (x : Found) → Told s (identity_of i) x → Owns s st i (own_in s i (found_place x))
-  owns_found (F.At p) t =
+  owns_found : (x : Result ℕ ℕ) → Told s (identity_of i) x → Owns s st i (own_in s i (found_place x))
+  owns_found (Ok p) t =
       let f : Fits (head_at s p) (entries_in s p) (bytes_in st p) = l.own p t.1 in
       record {
         test = e;
@@ -90,7 +82,7 @@ module _ (s : RecoveredRaftStorage) (st : List ℕ) (i : RaftReplicaIdentity) (e
               bytes = length_part (4096 * p) 4096 st (omega (arith, t.1, l.few, l.size));
             });
       }
-  owns_found (F.Missing p) t =
+  owns_found (Err p) t =
       record {
         test = e;
         whole = k.whole;
@@ -112,9 +104,9 @@ module _ (s : RecoveredRaftStorage) (st : List ℕ) (i : RaftReplicaIdentity) (e
             });
       }
 
-own_place : (s : RecoveredRaftStorage) (i : RaftReplicaIdentity) (x : Option ℕ) → Option.get_or x 0 ≡ (own_in s i x).place
-own_place s i none = refl
-own_place s i (some p) = refl
+own_place : (s : RecoveredRaftStorage) (i : RaftReplicaIdentity) (x : Option ℕ) → unwrap_or x 0 ≡ (own_in s i x).place
+own_place s i None = refl
+own_place s i (Some p) = refl
 
 module _ {s : RecoveredRaftStorage} {st : List ℕ} {i : RaftReplicaIdentity} {o : Own} where
   -- Where the test was passed, and the place is the one that was found.
@@ -130,5 +122,5 @@ module _ {s : RecoveredRaftStorage} {st : List ℕ} {i : RaftReplicaIdentity} {o
   place_in_lem w = own_place s i (place_of (identity_of i) (meaning s st).replicas) ∙ ap (λ (x : Own). x.place) (sym w.stands)
 
   -- A reader g of a log, at the replica.
-  pub reads_own : {A : Type 0} {r : Result A} → Owns s st i o → (g : Log ℕ → A) → ok (g (log_in s st o)) ≡ r → Reads s st (λ t. g (replica_of (identity_of i) t)) r
-  reads_own w g a = reads_whole w.test w.whole (ap (λ (x : Log ℕ). ok (g x)) (sym w.view) ∙ a)
+  pub reads_own : {A : Type 0} {r : Result A ℕ} → Owns s st i o → (g : Log ℕ → A) → Ok (g (log_in s st o)) ≡ r → Reads s st (λ t. g (replica_of (identity_of i) t)) r
+  reads_own w g a = reads_whole w.test w.whole (ap (λ (x : Log ℕ). Ok (g x)) (sym w.view) ∙ a)

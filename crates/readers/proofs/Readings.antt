@@ -1,14 +1,13 @@
 -- What is read at a place, of a replica, and of its entries.
 -- Assumes nothing.
+use Rattle.std.specs.Prelude.{Option, None, Some, slice_get, Ok, Err}
 use mathlib.Core.Path.{◌≡◌, refl, sym, ap, ◌∙◌}
 use mathlib.Core.Bool.{Bool, true, false, true≢false}
 use mathlib.Core.List.{List, [], ◌∷◌}
-use mathlib.Core.Option.{Option, none, some}
 use Prim.Native.Nat.{ℕ, zero, suc, ◌+◌, ◌-◌, ◌*◌, ◌<◌, ◌≤◌}
 use native.Mathlib.Omega.{arith}
 use borrow.Author.Tests.{lt-ltb, le-ltb}
-use lib.ListN.{length, get_or, get_elem?, take}
-use Rattle.definition.specs.Table.{ok}
+use lib.ListN.{length, get_or, take}
 use Rattle.definition.specs.Records.{normal, inside}
 use Rattle.definition.specs.Log as D
 use Rattle.definition.specs.Recovery.{replica_of, replica_at, least, minimum_recovery_lsn, pad_to, command_bytes}
@@ -20,8 +19,6 @@ use Rattle.store.proofs.Part.{length_part, part_part}
 use Rattle.view.specs.declared.EntryPayload.{EntryPayload}
 use Rattle.view.specs.declared.EntryPayload.TheVariants as Y
 use Rattle.view.specs.declared.Header.{Header}
-use Rattle.view.specs.declared.MaybeLsn.{MaybeLsn}
-use Rattle.view.specs.declared.Place.TheVariants as Q
 use Rattle.view.specs.declared.RecoveredRaftLogEntry.{RecoveredRaftLogEntry}
 use Rattle.view.specs.Meaning.{lsn_of, no_entry, cell_at, size_of, payload_in, entry_at, view_of, base_of}
 use Rattle.view.specs.Readers as H
@@ -31,13 +28,11 @@ use Rattle.storage.specs.declared.RecoveredRaftStorage.{RecoveredRaftStorage}
 use Rattle.storage.specs.Model.{head_at, entries_in, bytes_in}
 use Rattle.storage.specs.Meaning.{held_at, meaning, recovery_of}
 use Rattle.readers.specs.declared.Own.{Own}
-use Rattle.readers.specs.declared.ReadReplica.TheVariants as R
-use Rattle.readers.specs.declared.ReadPlace.TheVariants as P
-use Rattle.readers.specs.declared.ReadEntry.TheVariants as E
 use Rattle.readers.specs.Own.{Passes, minimum_of}
 use Rattle.readers.specs.Reads.{ReadsReplica, ReadsPlace, Shows, read_entry_of, payload_with, entry_with, cell_in, cell_for, command_of, command_at}
 use Rattle.readers.proofs.Answers.{ask_sound, ask_unsound, test_failed, reads_sound, reads_unsound}
 use Rattle.readers.proofs.Owns.{log_in, Owns, place_in_lem, reads_own}
+use Rattle.ids.specs.declared.Lsn.{Lsn}
 
 -- Of the state.
 pub held_is : (s : RecoveredRaftStorage) (st : List ℕ) → length (meaning s st).replicas ≡ s.held
@@ -46,26 +41,26 @@ held_is s st = length_tab s.held (held_at s st)
 
 -- At a replica place.
 module _ {s : RecoveredRaftStorage} {st : List ℕ} {b : Bool} (k : Passes s st b) {p : ℕ} where
-  pub place_refused : b ≡ false → ReadsPlace s st p (P.Refused W.Unsound)
+  pub place_refused : b ≡ false → ReadsPlace s st p (Err W.Unsound)
   place_refused q = record { reads = reads_unsound k q refl; own = λ t. absurd (true≢false (sym t ∙ test_failed k q)) }
 
-  past_is : s.held ≤ p → replica_at p (meaning s st) ≡ none
+  past_is : s.held ≤ p → replica_at p (meaning s st) ≡ None
   unfolding replica_at meaning
   past_is l = rw (get_elem_tab s.held (held_at s st) p, le-ltb p s.held l)
 
-  place_is_held : p < s.held → replica_at p (meaning s st) ≡ some (held_at s st p)
+  place_is_held : p < s.held → replica_at p (meaning s st) ≡ Some (held_at s st p)
   unfolding replica_at meaning
   place_is_held l = rw (get_elem_tab s.held (held_at s st) p, lt-ltb p s.held l)
 
-  pub place_past : b ≡ true → s.held ≤ p → ReadsPlace s st p P.None
-  place_past q l = record { reads = reads_sound k q (ap ok (past_is l)); own = λ t. rw (le-ltb p s.held l) }
+  pub place_past : b ≡ true → s.held ≤ p → ReadsPlace s st p (Ok None)
+  place_past q l = record { reads = reads_sound k q (ap Ok (past_is l)); own = λ t. rw (le-ltb p s.held l) }
 
-  pub place_held : b ≡ true → p < s.held → ReadsPlace s st p (P.Some (head_at s p))
-  place_held q l = record { reads = reads_sound k q (ap ok (place_is_held l)); own = λ t. rw (lt-ltb p s.held l) }
+  pub place_held : b ≡ true → p < s.held → ReadsPlace s st p (Ok (Some (head_at s p)))
+  place_held q l = record { reads = reads_sound k q (ap Ok (place_is_held l)); own = λ t. rw (lt-ltb p s.held l) }
 
 -- Of a header and the first of its entries.
 module _ (h : Header) (es : List RecoveredRaftLogEntry) (cs : List ℕ) {first : RecoveredRaftLogEntry} (e : first ≡ get_or es 0 no_entry) where
-  pub retained_is : {x : MaybeLsn} → x ≡ H.first_retained_of h first → D.first_retained_lsn (view_of h es cs) ≡ lsn_of x
+  pub retained_is : {x : Option Lsn} → x ≡ H.first_retained_of h first → D.first_retained_lsn (view_of h es cs) ≡ lsn_of x
   retained_is r = first_retained_is h es cs ∙ ap (λ (y : RecoveredRaftLogEntry). lsn_of (H.first_retained_of h y)) (sym e) ∙ ap lsn_of (sym r)
 
   pub minimum_is : minimum_recovery_lsn (view_of h es cs) ≡ minimum_of h first
@@ -108,31 +103,31 @@ module _ {s : RecoveredRaftStorage} {st : List ℕ} {i : RaftReplicaIdentity} {o
 
   -- At an entry place.
   module _ (q : ℕ) where
-    pub at_past : o.head.len ≤ q → get_elem? (log_in s st o).entries q ≡ none
+    pub at_past : o.head.len ≤ q → slice_get (log_in s st o).entries q ≡ None
     unfolding view_of
     at_past l = rw (get_elem_tab o.head.len own q, le-ltb q o.head.len l)
 
-    at_own : q < o.head.len → get_elem? (log_in s st o).entries q ≡ some (own q)
+    at_own : q < o.head.len → slice_get (log_in s st o).entries q ≡ Some (own q)
     unfolding view_of
     at_own l = rw (get_elem_tab o.head.len own q, lt-ltb q o.head.len l)
 
     pub at_held : {e : RecoveredRaftLogEntry} → e ≡ get_or (entries_in s o.place) q no_entry → q < o.head.len
-        → ok (get_elem? (log_in s st o).entries q) ≡ read_entry_of (cell_in s st (identity_of i) q) (E.Some e)
-    at_held a l = ap ok (at_own l ∙ ap some (kept_with q a l))
+        → Ok (slice_get (log_in s st o).entries q) ≡ read_entry_of (cell_in s st (identity_of i) q) (Ok (Some e))
+    at_held a l = ap Ok (at_own l ∙ ap Some (kept_with q a l))
 
   -- At an index.
   module _ (x : ℕ) where
     index_is : D.at (log_in s st o) x ≡ H.at_place (H.place_of o.head x) own
     index_is = at_is o.head (entries_in s o.place) (bytes_in st o.place) x
 
-    pub index_none : H.place_of o.head x ≡ Q.None → D.at (log_in s st o) x ≡ none
+    pub index_none : H.place_of o.head x ≡ None → D.at (log_in s st o) x ≡ None
     index_none e = rw e at index_is
 
-    module _ {q : ℕ} (e : H.place_of o.head x ≡ Q.Held q) where
+    module _ {q : ℕ} (e : H.place_of o.head x ≡ Some q) where
       pub index_below : q < o.head.len
       index_below = (held_at_lem o.head x q e).below
 
-      index_held : D.at (log_in s st o) x ≡ some (own q)
+      index_held : D.at (log_in s st o) x ≡ Some (own q)
       index_held = rw e at index_is
 
       place_is_q : q ≡ D.place (replica_of (identity_of i) (meaning s st)) x
@@ -142,9 +137,9 @@ module _ {s : RecoveredRaftStorage} {st : List ℕ} {i : RaftReplicaIdentity} {o
           d ∙ sym (place_is o.head (entries_in s o.place) (bytes_in st o.place) x) ∙ ap (λ (l : D.Log ℕ). D.place l x) w.view
 
       module _ {y : RecoveredRaftLogEntry} (a : y ≡ get_or (entries_in s o.place) q no_entry) where
-        pub index_entry : ok (D.at (log_in s st o) x) ≡ read_entry_of (cell_for s st (identity_of i) x) (E.Some y)
+        pub index_entry : Ok (D.at (log_in s st o) x) ≡ read_entry_of (cell_for s st (identity_of i) x) (Ok (Some y))
         index_entry =
-            ap ok (index_held ∙ ap some (kept_with q a index_below)) ∙ ap (λ (n : ℕ). read_entry_of (cell_in s st (identity_of i) n) (E.Some y)) place_is_q
+            ap Ok (index_held ∙ ap Some (kept_with q a index_below)) ∙ ap (λ (n : ℕ). read_entry_of (cell_in s st (identity_of i) n) (Ok (Some y))) place_is_q
 
         pub index_command : command_of (D.at (log_in s st o) x) ≡ command_bytes (payload_in y.payload (cell_at st (64 * o.place + q)))
         index_command =
@@ -154,7 +149,7 @@ module _ {s : RecoveredRaftStorage} {st : List ℕ} {i : RaftReplicaIdentity} {o
 
 -- The header of a replica, and the command that is shown at an index.
 module _ {s : RecoveredRaftStorage} {st : List ℕ} {b : Bool} (k : Passes s st b) {i : RaftReplicaIdentity} where
-  pub replica_refused : b ≡ false → ReadsReplica s st i (R.Refused W.Unsound)
+  pub replica_refused : b ≡ false → ReadsReplica s st i (Err W.Unsound)
   replica_refused q = record { reads = reads_unsound k q refl; own = λ t. absurd (true≢false (sym t ∙ test_failed k q)) }
 
   pub shows_nothing : {x : ℕ} → b ≡ false → Shows s st (identity_of i) x []
@@ -166,18 +161,18 @@ module _ {s : RecoveredRaftStorage} {st : List ℕ} {b : Bool} (k : Passes s st 
       }
 
 module _ {s : RecoveredRaftStorage} {st : List ℕ} {i : RaftReplicaIdentity} {o : Own} (w : Owns s st i o) where
-  pub replica_read : ReadsReplica s st i (R.Read o.head)
+  pub replica_read : ReadsReplica s st i (Ok o.head)
   replica_read =
       record {
-        reads = reads_own w (λ (l : D.Log ℕ). l) (ap (λ (p : ℕ). ok (view_of o.head (entries_in s p) (bytes_in st p))) (sym (place_in_lem w)));
-        own = λ t. ap (λ (x : Own). R.Read x.head) w.stands;
+        reads = reads_own w (λ (l : D.Log ℕ). l) (ap (λ (p : ℕ). Ok (view_of o.head (entries_in s p) (bytes_in st p))) (sym (place_in_lem w)));
+        own = λ t. ap (λ (x : Own). Ok x.head) w.stands;
       }
 
   pub shows_own : {x : ℕ} {shown : List ℕ} → command_of (D.at (log_in s st o) x) ≡ shown → Shows s st (identity_of i) x shown
   shows_own {x = x} {shown = shown} a =
       let e : command_at (identity_of i) x (meaning s st) ≡ shown = ap (λ (l : D.Log ℕ). command_of (D.at l x)) (sym w.view) ∙ a in
       record {
-        means = λ t. ask_sound (command_at (identity_of i) x) (recovery_of s st) w.whole ∙ ap ok e;
+        means = λ t. ask_sound (command_at (identity_of i) x) (recovery_of s st) w.whole ∙ ap Ok e;
         nothing = λ t. absurd (true≢false (sym w.test ∙ t));
         unsound = λ u. absurd (true≢false (sym w.whole ∙ u));
       }

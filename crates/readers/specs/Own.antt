@@ -1,7 +1,6 @@
 -- Where a replica stands in the state, and its header.
 -- Assumes nothing.
-use Rattle.std.specs.Prelude.{◌≡◌, Bool, List, ℕ, ◌*◌, length}
-use Rattle.std.proofs.Math.Option.{Option, none, some}
+use Rattle.std.specs.Prelude.{◌≡◌, Bool, List, ℕ, ◌*◌, length, Option, None, Some, Result, Ok, Err}
 use Rattle.definition.specs.Recovery.{least}
 use Rattle.ids.specs.Identity.{identity_of}
 use Rattle.ids.specs.declared.RaftReplicaIdentity.{RaftReplicaIdentity}
@@ -13,8 +12,6 @@ use Rattle.view.specs.Meaning.{lsn_of}
 use Rattle.view.specs.Model.{empty_header}
 use Rattle.view.specs.Readers.{first_retained_of}
 use Rattle.storage.specs.declared.RecoveredRaftStorage.{RecoveredRaftStorage}
-use Rattle.storage.specs.declared.Found.{Found}
-use Rattle.storage.specs.declared.Found.TheVariants as F
 use Rattle.storage.specs.Model.{head_at}
 use Rattle.storage.specs.Finding.{found_at}
 use Rattle.soundness.specs.Sound.{sound_test}
@@ -28,12 +25,12 @@ pub record Passes (s : RecoveredRaftStorage) (st : List ℕ) (b : Bool) : Type 0
 
 -- By the place of a replica; an empty header where it has none.
 abbrev pub own_in : RecoveredRaftStorage → RaftReplicaIdentity → Option ℕ → Own
-own_in s i none = record { place = 0; head = empty_header i }
-own_in s i (some p) = record { place = p; head = head_at s p }
+own_in s i None = record { place = 0; head = empty_header i }
+own_in s i (Some p) = record { place = p; head = head_at s p }
 
-abbrev pub found_place : Found → Option ℕ
-found_place (F.At p) = some p
-found_place (F.Missing p) = none
+abbrev pub found_place : Result ℕ ℕ → Option ℕ
+found_place (Ok p) = Some p
+found_place (Err p) = None
 
 abbrev pub own_for : RecoveredRaftStorage → RaftReplicaIdentity → Own
 own_for s i = own_in s i (found_place (found_at s (identity_of i)))

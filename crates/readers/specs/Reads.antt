@@ -1,87 +1,41 @@
 -- What a reader answers, and what its answer means.
 -- Assumes nothing.
-use Rattle.std.specs.Prelude.{◌≡◌, Bool, true, false, List, [], ℕ, if◌then◌else◌}
-use Rattle.std.proofs.Math.Option.{Option, none, some, get_or}
-use Rattle.definition.specs.Table.{Result, ok, refusal, ◌<?◌}
+use Rattle.std.specs.Prelude.{◌≡◌, true, false, List, [], ℕ, if◌then◌else◌, Option, None, Some, unwrap_or, option_map, Result, Ok, Err}
+use Rattle.definition.specs.Table.{◌<?◌}
 use Rattle.definition.specs.Records as D
 use Rattle.definition.specs.Log.{Entry, Log, place, at}
 use Rattle.definition.specs.Recovery.{Held, State, sound, ask, place_of, replica_of, replica_at, pad_to, command_bytes}
 use Rattle.ids.specs.Identity.{identity_of}
-use Rattle.ids.specs.Refusal.{number_of}
+use Rattle.ids.specs.Refusal.{result_of}
 use Rattle.ids.specs.declared.RaftReplicaIdentity.{RaftReplicaIdentity}
 use Rattle.codec.specs.Records.{change_of}
 use Rattle.view.specs.declared.EntryPayload.{EntryPayload}
 use Rattle.view.specs.declared.EntryPayload.TheVariants as Y
 use Rattle.view.specs.declared.RecoveredRaftLogEntry.{RecoveredRaftLogEntry}
-use Rattle.view.specs.Meaning.{lsn_of, cell_at, view_of, held_of}
-use Rattle.view.specs.Readers.{maybe_index_of, maybe_boundary_of}
+use Rattle.view.specs.Meaning.{cell_at, view_of, held_of}
 use Rattle.storage.specs.declared.RecoveredRaftStorage.{RecoveredRaftStorage}
 use Rattle.storage.specs.Model.{head_at, entries_in, bytes_in}
 use Rattle.storage.specs.Meaning.{meaning, recovery_of}
 use Rattle.soundness.specs.Sound.{sound_test}
 use Rattle.readers.specs.Own.{own_in}
-use Rattle.readers.specs.declared.ReadCount.{ReadCount}
-use Rattle.readers.specs.declared.ReadCount.TheVariants as C
-use Rattle.readers.specs.declared.ReadNumber.{ReadNumber}
-use Rattle.readers.specs.declared.ReadNumber.TheVariants as N
-use Rattle.readers.specs.declared.ReadFlag.{ReadFlag}
-use Rattle.readers.specs.declared.ReadFlag.TheVariants as G
-use Rattle.readers.specs.declared.ReadLsn.{ReadLsn}
-use Rattle.readers.specs.declared.ReadLsn.TheVariants as L
-use Rattle.readers.specs.declared.ReadIndex.{ReadIndex}
-use Rattle.readers.specs.declared.ReadIndex.TheVariants as I
-use Rattle.readers.specs.declared.ReadBoundary.{ReadBoundary}
-use Rattle.readers.specs.declared.ReadBoundary.TheVariants as B
-use Rattle.readers.specs.declared.ReadReplica.{ReadReplica}
-use Rattle.readers.specs.declared.ReadReplica.TheVariants as R
-use Rattle.readers.specs.declared.ReadPlace.{ReadPlace}
-use Rattle.readers.specs.declared.ReadPlace.TheVariants as P
-use Rattle.readers.specs.declared.ReadEntry.{ReadEntry}
-use Rattle.readers.specs.declared.ReadEntry.TheVariants as E
+use Rattle.view.specs.declared.Header.{Header}
+use Rattle.ids.specs.declared.Refusal.{Refusal}
 
 -- A reader f of the definition, and the meaning r of what the code answers.
-pub record Reads {A : Type 0} (s : RecoveredRaftStorage) (st : List ℕ) (f : State → A) (r : Result A) : Type 0 where
+pub record Reads {A : Type 0} (s : RecoveredRaftStorage) (st : List ℕ) (f : State → A) (r : Result A ℕ) : Type 0 where
   -- where state and store are sound: the definition's
   pub means : sound_test s st ≡ true → ask f (recovery_of s st) ≡ r
   -- where they are not: refused by 1
-  pub refused : sound_test s st ≡ false → r ≡ refusal 1
+  pub refused : sound_test s st ≡ false → r ≡ Err 1
   -- what means no sound state is among these: the definition refuses it too
   pub unsound : sound (recovery_of s st) ≡ false → ask f (recovery_of s st) ≡ r
 
--- What an answer means.
-abbrev pub read_count_of : ReadCount → Result ℕ
-read_count_of (C.Read n) = ok n
-read_count_of (C.Refused why) = refusal (number_of why)
-
-abbrev pub read_number_of : ReadNumber → Result ℕ
-read_number_of (N.Read n) = ok n
-read_number_of (N.Refused why) = refusal (number_of why)
-
-abbrev pub read_flag_of : ReadFlag → Result Bool
-read_flag_of (G.Read b) = ok b
-read_flag_of (G.Refused why) = refusal (number_of why)
-
-abbrev pub read_lsn_of : ReadLsn → Result (Option ℕ)
-read_lsn_of (L.Read l) = ok (lsn_of l)
-read_lsn_of (L.Refused why) = refusal (number_of why)
-
-abbrev pub read_index_of : ReadIndex → Result (Option ℕ)
-read_index_of (I.Read n) = ok (maybe_index_of n)
-read_index_of (I.Refused why) = refusal (number_of why)
-
-abbrev pub read_boundary_of : ReadBoundary → Result (Option (ℕ × ℕ))
-read_boundary_of (B.Read b) = ok (maybe_boundary_of b)
-read_boundary_of (B.Refused why) = refusal (number_of why)
-
 -- A header, with the entries and the bytes of its place.
-abbrev pub read_replica_of : RecoveredRaftStorage → List ℕ → ℕ → ReadReplica → Result (Log ℕ)
-read_replica_of s st p (R.Read h) = ok (view_of h (entries_in s p) (bytes_in st p))
-read_replica_of s st p (R.Refused why) = refusal (number_of why)
+abbrev pub read_replica_of : RecoveredRaftStorage → List ℕ → ℕ → Result Header Refusal → Result (Log ℕ) ℕ
+read_replica_of s st p = result_of (λ h. view_of h (entries_in s p) (bytes_in st p))
 
-abbrev pub read_place_of : RecoveredRaftStorage → List ℕ → ℕ → ReadPlace → Result (Option (Held (Log ℕ)))
-read_place_of s st p P.None = ok none
-read_place_of s st p (P.Some h) = ok (some (held_of h (entries_in s p) (bytes_in st p)))
-read_place_of s st p (P.Refused why) = refusal (number_of why)
+abbrev pub read_place_of : RecoveredRaftStorage → List ℕ → ℕ → Result (Option Header) Refusal → Result (Option (Held (Log ℕ))) ℕ
+read_place_of s st p = result_of (option_map (λ h. held_of h (entries_in s p) (bytes_in st p)))
 
 -- An entry, with the cell of its command: of n bytes the first n of the cell, and zeros past its end.
 abbrev pub payload_with : EntryPayload → List ℕ → D.Payload
@@ -91,14 +45,12 @@ payload_with (Y.Configuration kind version replica) cell = D.configuration (chan
 abbrev pub entry_with : RecoveredRaftLogEntry → List ℕ → Entry ℕ
 entry_with e cell = record { term = e.term; payload = payload_with e.payload cell; lsn = e.lsn.0 }
 
-abbrev pub read_entry_of : List ℕ → ReadEntry → Result (Option (Entry ℕ))
-read_entry_of cell E.None = ok none
-read_entry_of cell (E.Some e) = ok (some (entry_with e cell))
-read_entry_of cell (E.Refused why) = refusal (number_of why)
+abbrev pub read_entry_of : List ℕ → Result (Option RecoveredRaftLogEntry) Refusal → Result (Option (Entry ℕ)) ℕ
+read_entry_of cell = result_of (option_map (λ e. entry_with e cell))
 
 -- The cell at an entry place of a replica, and at an index. A replica that is not held has none: any will do.
 abbrev pub place_in : RecoveredRaftStorage → List ℕ → D.Identity → ℕ
-place_in s st i = get_or (place_of i (meaning s st).replicas) 0
+place_in s st i = unwrap_or (place_of i (meaning s st).replicas) 0
 
 abbrev pub cell_in : RecoveredRaftStorage → List ℕ → D.Identity → ℕ → List ℕ
 cell_in s st i q = cell_at (bytes_in st (place_in s st i)) q
@@ -107,26 +59,26 @@ abbrev pub cell_for : RecoveredRaftStorage → List ℕ → D.Identity → ℕ �
 cell_for s st i index = cell_in s st i (place (replica_of i (meaning s st)) index)
 
 -- A pointer is kept with an identity that no meaning tells: a header is the one that stands at its replica's place.
-pub record ReadsReplica (s : RecoveredRaftStorage) (st : List ℕ) (i : RaftReplicaIdentity) (r : ReadReplica) : Type 0 where
+pub record ReadsReplica (s : RecoveredRaftStorage) (st : List ℕ) (i : RaftReplicaIdentity) (r : Result Header Refusal) : Type 0 where
   pub reads : Reads s st (replica_of (identity_of i)) (read_replica_of s st (place_in s st (identity_of i)) r)
-  pub own : sound_test s st ≡ true → r ≡ R.Read (own_in s i (place_of (identity_of i) (meaning s st).replicas)).head
+  pub own : sound_test s st ≡ true → r ≡ Ok (own_in s i (place_of (identity_of i) (meaning s st).replicas)).head
 
-pub record ReadsPlace (s : RecoveredRaftStorage) (st : List ℕ) (p : ℕ) (r : ReadPlace) : Type 0 where
+pub record ReadsPlace (s : RecoveredRaftStorage) (st : List ℕ) (p : ℕ) (r : Result (Option Header) Refusal) : Type 0 where
   pub reads : Reads s st (replica_at p) (read_place_of s st p r)
-  pub own : sound_test s st ≡ true → r ≡ (if p <? s.held then P.Some (head_at s p) else P.None)
+  pub own : sound_test s st ≡ true → r ≡ (if p <? s.held then Ok (Some (head_at s p)) else (Ok None))
 
 -- The command of what is held at an index.
 abbrev pub command_of : Option (Entry ℕ) → List ℕ
-command_of none = []
-command_of (some e) = command_bytes e.payload
+command_of None = []
+command_of (Some e) = command_bytes e.payload
 
 abbrev pub command_at : D.Identity → ℕ → State → List ℕ
 command_at i index t = command_of (at (replica_of i t) index)
 
 pub record Shows (s : RecoveredRaftStorage) (st : List ℕ) (i : D.Identity) (index : ℕ) (shown : List ℕ) : Type 0 where
   -- where state and store are sound: the definition's
-  pub means : sound_test s st ≡ true → ask (command_at i index) (recovery_of s st) ≡ ok shown
+  pub means : sound_test s st ≡ true → ask (command_at i index) (recovery_of s st) ≡ Ok shown
   -- where they are not: nothing
   pub nothing : sound_test s st ≡ false → shown ≡ []
   -- what means no sound state is among these: the definition refuses it by 1
-  pub unsound : sound (recovery_of s st) ≡ false → ask (command_at i index) (recovery_of s st) ≡ refusal 1
+  pub unsound : sound (recovery_of s st) ≡ false → ask (command_at i index) (recovery_of s st) ≡ Err 1

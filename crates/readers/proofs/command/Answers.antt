@@ -21,28 +21,28 @@ returns-in_default c =
 pub kept_at-kept-requires : goal.kept_at-kept-requires
 kept_at-kept-requires c =
     let w = owns c.passes.ensures c.if-not-passes.false c.own_of-own.ensures in
-    let k = index_below w _ (sym c.place_of.ensures ∙ c.in-Held.is) in
+    let k = index_below w _ (sym c.place_of.ensures ∙ c.in-Some.is) in
     (w.low, omega (arith, k, w.short))
 
 pub overflow_mul-own : goal.overflow_mul-own
 overflow_mul-own c =
     let w = owns c.passes.ensures c.if-not-passes.false c.own_of-own.ensures in
-    let k = index_below w _ (sym c.place_of.ensures ∙ c.in-Held.is) in
+    let k = index_below w _ (sym c.place_of.ensures ∙ c.in-Some.is) in
     omega (arith, k, w.low, w.short)
 
 pub overflow_add-own : goal.overflow_add-own
 overflow_add-own c =
     let w = owns c.passes.ensures c.if-not-passes.false c.own_of-own.ensures in
-    let k = index_below w _ (sym c.place_of.ensures ∙ c.in-Held.is) in
+    let k = index_below w _ (sym c.place_of.ensures ∙ c.in-Some.is) in
     omega (arith, k, w.low, w.short)
 
 pub command-requires : goal.command-requires
 command-requires c =
     let w = owns c.passes.ensures c.if-not-passes.false c.own_of-own.ensures in
-    let k = index_below w _ (sym c.place_of.ensures ∙ c.in-Held.is) in
+    let k = index_below w _ (sym c.place_of.ensures ∙ c.in-Some.is) in
     (omega (arith, k, w.low, w.short, w.size), simp c.kept_at-kept.ensures (w.sizes _ k))
 
 pub returns : goal.returns
 returns c =
     let w = owns c.passes.ensures c.if-not-passes.false c.own_of-own.ensures in
-    shows_own w (index_command w _ (sym c.place_of.ensures ∙ c.in-Held.is) c.kept_at-kept.ensures ∙ sym c.command.ensures)
+    shows_own w (index_command w _ (sym c.place_of.ensures ∙ c.in-Some.is) c.kept_at-kept.ensures ∙ sym c.command.ensures)

@@ -1,7 +1,7 @@
 -- `committed_index` meets its contract.
+use Rattle.std.specs.Prelude.{Ok}
 use mathlib.Core.Path.{refl, sym, ap}
 use Prim.Native.Nat.{ℕ}
-use Rattle.definition.specs.Table.{ok}
 use Rattle.definition.specs.Log.{Log}
 use Rattle.view.specs.Meaning.{view_of}
 use Rattle.readers.proofs.Answers.{few_held, reads_unsound}
@@ -18,4 +18,4 @@ pub returns : goal.returns
 unfolding view_of
 returns c =
     let w = owns c.passes.ensures c.if-not-passes.false c.own_of-own.ensures in
-    reads_own w (λ (l : Log ℕ). l.committed_index) (ap ok (sym c.committed_index.ensures))
+    reads_own w (λ (l : Log ℕ). l.committed_index) (ap Ok (sym c.committed_index.ensures))

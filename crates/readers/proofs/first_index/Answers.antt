@@ -1,6 +1,6 @@
 -- `first_index` meets its contract.
+use Rattle.std.specs.Prelude.{Ok}
 use mathlib.Core.Path.{refl, sym, ap, ◌∙◌}
-use Rattle.definition.specs.Table.{ok}
 use Rattle.definition.specs.Log.{first_index}
 use Rattle.view.proofs.Readers.{first_index_is}
 use Rattle.readers.proofs.Answers.{few_held, reads_unsound}
@@ -16,4 +16,4 @@ own_of-own-requires c = few_held c.passes.ensures c.if-not-passes.false
 pub returns : goal.returns
 returns c =
     let w = owns c.passes.ensures c.if-not-passes.false c.own_of-own.ensures in
-    reads_own w first_index (ap ok (first_index_is _ _ _ ∙ sym c.first_index.ensures))
+    reads_own w first_index (ap Ok (first_index_is _ _ _ ∙ sym c.first_index.ensures))

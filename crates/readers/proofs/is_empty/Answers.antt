@@ -1,7 +1,8 @@
 -- `is_empty` meets its contract.
+use Rattle.std.specs.Prelude.{Ok}
 use mathlib.Core.Path.{refl, ap}
 use Prim.Native.Nat.{ℕ}
-use Rattle.definition.specs.Table.{◌=?◌, ok}
+use Rattle.definition.specs.Table.{◌=?◌}
 use Rattle.readers.proofs.Answers.{reads_sound, reads_unsound}
 use Rattle.readers.proofs.Readings.{held_is}
 use Rattle.readers.proofs.is_empty.Goals as goal
@@ -10,4 +11,4 @@ pub returns-then-not-passes : goal.returns-then-not-passes
 returns-then-not-passes c = reads_unsound c.passes.ensures c.if-not-passes.true refl
 
 pub returns : goal.returns
-returns c = reads_sound c.passes.ensures c.if-not-passes.false (ap (λ (n : ℕ). ok (n =? 0)) (held_is _ _))
+returns c = reads_sound c.passes.ensures c.if-not-passes.false (ap (λ (n : ℕ). Ok (n =? 0)) (held_is _ _))

@@ -1,6 +1,6 @@
 -- `last_index` meets its contract.
+use Rattle.std.specs.Prelude.{Ok}
 use mathlib.Core.Path.{refl, sym, ap, ◌∙◌}
-use Rattle.definition.specs.Table.{ok}
 use Rattle.definition.specs.Log.{last_index}
 use Rattle.view.proofs.Readers.{last_index_is}
 use Rattle.readers.proofs.Answers.{few_held, reads_unsound}
@@ -16,4 +16,4 @@ own_of-own-requires c = few_held c.passes.ensures c.if-not-passes.false
 pub returns : goal.returns
 returns c =
     let w = owns c.passes.ensures c.if-not-passes.false c.own_of-own.ensures in
-    reads_own w last_index (ap ok (last_index_is _ _ _ w.indices ∙ sym c.last_index.ensures))
+    reads_own w last_index (ap Ok (last_index_is _ _ _ w.indices ∙ sym c.last_index.ensures))

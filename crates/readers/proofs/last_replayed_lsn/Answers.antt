@@ -1,13 +1,13 @@
 -- `last_replayed_lsn` meets its contract.
+use Rattle.std.specs.Prelude.{Option, Ok}
 use mathlib.Core.Path.{refl, sym, ap}
 use Prim.Native.Nat.{ℕ}
-use Rattle.definition.specs.Table.{ok}
 use Rattle.definition.specs.Log.{Log}
-use Rattle.view.specs.declared.MaybeLsn.{MaybeLsn}
 use Rattle.view.specs.Meaning.{lsn_of, view_of}
 use Rattle.readers.proofs.Answers.{few_held, reads_unsound}
 use Rattle.readers.proofs.Owns.{owns, reads_own}
 use Rattle.readers.proofs.last_replayed_lsn.Goals as goal
+use Rattle.ids.specs.declared.Lsn.{Lsn}
 
 pub returns-then-not-passes : goal.returns-then-not-passes
 returns-then-not-passes c = reads_unsound c.passes.ensures c.if-not-passes.true refl
@@ -19,4 +19,4 @@ pub returns : goal.returns
 unfolding view_of
 returns c =
     let w = owns c.passes.ensures c.if-not-passes.false c.own_of-own.ensures in
-    reads_own w (λ (l : Log ℕ). l.last_replayed_lsn) (ap (λ (l : MaybeLsn). ok (lsn_of l)) (sym c.last_replayed_lsn.ensures))
+    reads_own w (λ (l : Log ℕ). l.last_replayed_lsn) (ap (λ (l : Option Lsn). Ok (lsn_of l)) (sym c.last_replayed_lsn.ensures))

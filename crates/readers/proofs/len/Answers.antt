@@ -1,6 +1,6 @@
 -- `len` meets its contract.
+use Rattle.std.specs.Prelude.{Ok}
 use mathlib.Core.Path.{refl, ap}
-use Rattle.definition.specs.Table.{ok}
 use Rattle.readers.proofs.Answers.{reads_sound, reads_unsound}
 use Rattle.readers.proofs.Readings.{held_is}
 use Rattle.readers.proofs.len.Goals as goal
@@ -9,4 +9,4 @@ pub returns-then-not-passes : goal.returns-then-not-passes
 returns-then-not-passes c = reads_unsound c.passes.ensures c.if-not-passes.true refl
 
 pub returns : goal.returns
-returns c = reads_sound c.passes.ensures c.if-not-passes.false (ap ok (held_is _ _))
+returns c = reads_sound c.passes.ensures c.if-not-passes.false (ap Ok (held_is _ _))

@@ -1,7 +1,8 @@
 -- `log_is_empty` meets its contract.
+use Rattle.std.specs.Prelude.{Ok}
 use mathlib.Core.Path.{refl, sym, ap, ◌∙◌}
 use Prim.Native.Nat.{ℕ}
-use Rattle.definition.specs.Table.{◌=?◌, ok}
+use Rattle.definition.specs.Table.{◌=?◌}
 use Rattle.definition.specs.Log.{is_empty}
 use Rattle.view.proofs.Readers.{count_is}
 use Rattle.readers.proofs.Answers.{few_held, reads_unsound}
@@ -17,4 +18,4 @@ own_of-own-requires c = few_held c.passes.ensures c.if-not-passes.false
 pub returns : goal.returns
 returns c =
     let w = owns c.passes.ensures c.if-not-passes.false c.own_of-own.ensures in
-    reads_own w is_empty (ap (λ (n : ℕ). ok (n =? 0)) (count_is _ _ _) ∙ ap ok (sym c.is_empty.ensures))
+    reads_own w is_empty (ap (λ (n : ℕ). Ok (n =? 0)) (count_is _ _ _) ∙ ap Ok (sym c.is_empty.ensures))

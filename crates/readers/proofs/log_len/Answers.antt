@@ -1,6 +1,6 @@
 -- `log_len` meets its contract.
+use Rattle.std.specs.Prelude.{Ok}
 use mathlib.Core.Path.{refl, sym, ap, ◌∙◌}
-use Rattle.definition.specs.Table.{ok}
 use Rattle.definition.specs.Log.{count}
 use Rattle.view.proofs.Readers.{count_is}
 use Rattle.readers.proofs.Answers.{few_held, reads_unsound}
@@ -16,4 +16,4 @@ own_of-own-requires c = few_held c.passes.ensures c.if-not-passes.false
 pub returns : goal.returns
 returns c =
     let w = owns c.passes.ensures c.if-not-passes.false c.own_of-own.ensures in
-    reads_own w count (ap ok (count_is _ _ _ ∙ sym c.len.ensures))
+    reads_own w count (ap Ok (count_is _ _ _ ∙ sym c.len.ensures))

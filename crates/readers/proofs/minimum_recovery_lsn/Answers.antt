@@ -1,7 +1,7 @@
 -- `minimum_recovery_lsn` meets its contract.
+use Rattle.std.specs.Prelude.{Ok}
 use mathlib.Core.Path.{refl, sym, ap, ◌∙◌}
 use native.Mathlib.Omega.{arith}
-use Rattle.definition.specs.Table.{ok}
 use Rattle.definition.specs.Recovery.{minimum_recovery_lsn}
 use Rattle.readers.proofs.Answers.{few_held, reads_unsound}
 use Rattle.readers.proofs.Owns.{owns, reads_own}
@@ -20,4 +20,4 @@ kept_at-first-requires c = ((owns c.passes.ensures c.if-not-passes.false c.own_o
 pub returns : goal.returns
 returns c =
     let w = owns c.passes.ensures c.if-not-passes.false c.own_of-own.ensures in
-    reads_own w minimum_recovery_lsn (ap ok (minimum_is _ _ _ c.kept_at-first.ensures ∙ sym c.minimum_of.ensures))
+    reads_own w minimum_recovery_lsn (ap Ok (minimum_is _ _ _ c.kept_at-first.ensures ∙ sym c.minimum_of.ensures))
