@@ -3,12 +3,11 @@
 use mathlib.Core.Path.{◌≡◌, refl, ap}
 use mathlib.Core.Bool.{Bool, true, false}
 use mathlib.Core.List.{List, ◌∷◌}
-use mathlib.Core.Option.{some}
 use Prim.Native.Nat.{ℕ, suc, ◌<◌}
 use borrow.Author.Tests.{lt-ltb}
-use lib.ListN.{length, get_or, drop, get_elem?}
+use lib.ListN.{length, get_or, drop}
 use lib.Seq.{drop-cons}
-use Rattle.std.specs.Prelude.{if◌then◌else◌}
+use Rattle.std.specs.Prelude.{if◌then◌else◌, Some, slice_get}
 use Rattle.definition.specs.Table.{◌=?◌}
 use Rattle.definition.specs.Records as D
 use Rattle.ids.specs.declared.RaftReplicaIdentity.{RaftReplicaIdentity}
@@ -50,7 +49,7 @@ module _ (es : BatchEntries) (lent : List ℕ) where
   unfolding entries_of
   entries_count = length_tab es.count (entry_at es lent)
 
-  pub entries_at : (i : ℕ) → i < es.count → get_elem? (entries_of es lent) i ≡ some (entry_at es lent i)
+  pub entries_at : (i : ℕ) → i < es.count → slice_get (entries_of es lent) i ≡ Some (entry_at es lent i)
   unfolding entries_of
   entries_at i h = rw (get_elem_tab es.count (entry_at es lent) i, lt-ltb i es.count h)
 

@@ -1,4 +1,3 @@
 pub mod Entries
-pub mod Form
 pub mod Joins
 pub mod Rows

@@ -1,9 +1,9 @@
 -- The tables of the checks are the definition's rows, for every header that fits and whatever it holds.
 -- Assumes nothing.
+use Rattle.std.specs.Prelude.{Option, option_map}
 use mathlib.Core.Path.{◌≡◌, refl, sym, ap, ◌∙◌}
 use mathlib.Core.Bool.{Bool, true, false, not}
 use mathlib.Core.List.{List, [], ◌∷◌, ◌++◌}
-use mathlib.Core.Option.{map}
 use Prim.Native.Nat.{ℕ, ◌≤◌}
 use lib.ListN.{length}
 use Rattle.definition.specs.Table.{Row, ◌when◌, first_of}
@@ -12,18 +12,15 @@ use Rattle.definition.specs.Log as D
 use Rattle.definition.specs.Batch as M
 use Rattle.definition.proofs.Order.{same_eq}
 use Rattle.codec.specs.declared.HardState.{HardState}
-use Rattle.codec.specs.declared.MaybeHardState.{MaybeHardState}
-use Rattle.codec.specs.declared.MaybePointer.{MaybePointer}
 use Rattle.codec.specs.declared.RaftSnapshotPointerRecord.{RaftSnapshotPointerRecord}
 use Rattle.codec.specs.Records.{hard_state_of, maybe_hard_state_of, pointer_of, pointer_record_of, maybe_pointer_of}
 use Rattle.view.specs.declared.Existing.{Existing}
 use Rattle.view.specs.declared.Header.{Header}
-use Rattle.view.specs.declared.MaybeTerm.{MaybeTerm}
 use Rattle.view.specs.declared.RecoveredRaftLogEntry.{RecoveredRaftLogEntry}
 use Rattle.view.specs.Meaning.{view_of, Fits}
 use Rattle.view.specs.Model.{maximum_term}
 use Rattle.view.specs.Readers.{last_of}
-use Rattle.view.specs.Decisions.{maybe_term_of, Tells, replay_rows_of}
+use Rattle.view.specs.Decisions.{Tells, replay_rows_of}
 use Rattle.view.proofs.Head.{maximum_is}
 use Rattle.view.proofs.Readers.{last_is}
 use Rattle.view.proofs.Rows.{batch_rows_lem, install_rows_lem}
@@ -39,7 +36,7 @@ before_both ((k when false) ∷ l) m n e = before_both l m n e
 
 module _ (i : Identity) (b : M.Batch) (v : M.Preview) (h : Header) (es : List RecoveredRaftLogEntry) (cs : List ℕ) (f : Fits h es cs) (means : v.log ≡ view_of h es cs) where
   -- The pointer. Nothing stands before it in the batch, so that the preview's log is the kept one.
-  module _ (p : RaftSnapshotPointerRecord) (held : MaybeTerm) (told : map (λ o. o.term) (D.at (view_of h es cs) p.last_included_index) ≡ maybe_term_of held) where
+  module _ (p : RaftSnapshotPointerRecord) (held : Option ℕ) (told : option_map (λ o. o.term) (D.at (view_of h es cs) p.last_included_index) ≡ held) where
     -- what follows 45 in the definition
     abbrev after : D.PointerRecord → List Row
     after q =
@@ -77,7 +74,7 @@ module _ (i : Identity) (b : M.Batch) (v : M.Preview) (h : Header) (es : List Re
   boundary_row e = rw means
 
   -- An entry: what is told of the entry at its index is so, and `prior` is the predecessor's term.
-  module _ (was : D.Log ℕ) (e : LogEntry) (old : Existing) (prior : ℕ) (tells : Tells old (D.at (view_of h es cs) e.index) e) (before : D.predecessor_term (view_of h es cs) e.index ≡ prior) where
+  module _ (was : D.Log ℕ) (e : LogEntry) (old : Option Existing) (prior : ℕ) (tells : Tells old (D.at (view_of h es cs) e.index) e) (before : D.predecessor_term (view_of h es cs) e.index ≡ prior) where
     pub entry_rows : first_of (M.batch_entry_rows i b was e v) ≡ first_of (entry_form_rows v.lsn e ++ boundary_rows h e.index ++ replay_rows_of h old prior e.index e.term)
     unfolding M.batch_entry_rows
     entry_rows =
@@ -85,14 +82,14 @@ module _ (i : Identity) (b : M.Batch) (v : M.Preview) (h : Header) (es : List Re
         (rw means (batch_rows_lem h es cs f e old prior tells before))
 
 -- The hard state, where `last` is the preview's last index.
-pub hard_state_rows_lem : (i : Identity) (b : M.Batch) (was : D.Log ℕ) (v : M.Preview) (kept : MaybeHardState) (snapshot : MaybePointer) (last : ℕ) (h : HardState) →
+pub hard_state_rows_lem : (i : Identity) (b : M.Batch) (was : D.Log ℕ) (v : M.Preview) (kept : Option HardState) (snapshot : Option RaftSnapshotPointerRecord) (last : ℕ) (h : HardState) →
     was.hard_state ≡ maybe_hard_state_of kept → b.snapshot ≡ maybe_pointer_of snapshot → D.last v.log ≡ last →
     M.batch_hard_state_rows i b was (hard_state_of h) v ≡ hard_state_rows kept snapshot last h
 unfolding M.batch_hard_state_rows
 hard_state_rows_lem i b was v kept snapshot last h x y z = rw (x, y, z)
 
 -- The terms, where `boundary` is the preview's boundary term and `largest` its largest term.
-pub term_rows_lem : (b : M.Batch) (was : D.Log ℕ) (v : M.Preview) (batch kept : MaybeHardState) (boundary largest : ℕ) →
+pub term_rows_lem : (b : M.Batch) (was : D.Log ℕ) (v : M.Preview) (batch kept : Option HardState) (boundary largest : ℕ) →
     b.hard_state ≡ maybe_hard_state_of batch → was.hard_state ≡ maybe_hard_state_of kept → v.log.snapshot_term ≡ boundary → D.maximum_observed_term v.log ≡ largest →
     M.hard_state_before_log_term b was v ∷ [] ≡ term_rows batch kept boundary largest
 term_rows_lem b was v batch kept boundary largest w x y z = rw (z, w, x, y)

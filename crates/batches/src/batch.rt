@@ -10,22 +10,20 @@ ghost use Rattle.batches.specs.Meaning.{change_from, payload_from, record_at, ba
 
 use crate::{BatchEntries, MAX_BATCH_ENTRIES, RaftPersistenceBatch};
 use codec::{
-    ConfChangeKind, DurableRaftEntryPayload, MaybeHardState, MaybePointer,
-    RAFT_LOG_ENTRY_RECORD_VERSION, RaftLogEntryRecord,
+    ConfChangeKind, DurableRaftEntryPayload, HardState, RAFT_LOG_ENTRY_RECORD_VERSION,
+    RaftLogEntryRecord, RaftSnapshotPointerRecord,
 };
-use ids::{Checked, RaftReplicaIdentity, Refusal, ReplicaId};
+use ids::{RaftReplicaIdentity, Refusal, ReplicaId};
 
 // What a change of configuration does, by its number.
 fn change(kind: u64) -> ConfChangeKind
     ensures { result ≡ change_from kind }
 {
-    if kind == 1 {
-        return ConfChangeKind::AddLearner;
+    match kind {
+        1 => ConfChangeKind::AddLearner,
+        2 => ConfChangeKind::PromoteLearner,
+        _ => ConfChangeKind::RemoveReplica,
     }
-    if kind == 2 {
-        return ConfChangeKind::PromoteLearner;
-    }
-    ConfChangeKind::RemoveReplica
 }
 
 // A payload by its three numbers.
@@ -38,12 +36,10 @@ fn payload(kind: u64, first: u64, second: u64) -> DurableRaftEntryPayload
             len: second as usize,
         };
     }
-    let change = change(kind);
-    let replica = ReplicaId(second);
     DurableRaftEntryPayload::Configuration {
-        kind: change,
+        kind: change(kind),
         expected_version: first,
-        replica_id: replica,
+        replica_id: ReplicaId(second),
     }
 }
 
@@ -56,46 +52,41 @@ pub fn record_at(
     requires { i < 32 }
     ensures { result ≡ record_at entries i identity }
 {
-    let payload = payload(entries.kind[i], entries.first[i], entries.second[i]);
     RaftLogEntryRecord {
         format_version: RAFT_LOG_ENTRY_RECORD_VERSION,
-        identity: identity,
+        identity,
         index: entries.index[i],
         term: entries.term[i],
-        payload: payload,
+        payload: payload(entries.kind[i], entries.first[i], entries.second[i]),
     }
 }
 
 // Whether there is a pointer and no hard state.
-fn pointer_alone(snapshot: MaybePointer, hard_state: MaybeHardState) -> bool
+fn pointer_alone(snapshot: Option<RaftSnapshotPointerRecord>, hard_state: Option<HardState>) -> bool
     ensures { result ≡ (is_some (maybe_pointer_of snapshot) && not (is_some (maybe_hard_state_of hard_state))) }
 {
-    let MaybePointer::Some(_) = snapshot else {
-        return false;
-    };
-    match hard_state {
-        MaybeHardState::None => true,
-        MaybeHardState::Some(_) => false,
-    }
+    snapshot.is_some() && hard_state.is_none()
 }
 
 // The batch as a whole: group or replica zero (6, 7), more than 32 entries (43), a pointer without hard state (44).
-pub fn check_batch(identity: RaftReplicaIdentity, batch: RaftPersistenceBatch) -> Checked
+#[tactic(auto, unfolding(definition::specs::Batch::batch_rows))]
+pub fn check_batch(
+    identity: RaftReplicaIdentity,
+    batch: RaftPersistenceBatch,
+) -> Result<(), Refusal>
     ensures { (lent : List ℕ) (was : Log ℕ) → checked_of result ≡ first_of (batch_rows (identity_of identity) (batch_of batch lent) was) }
 {
     if identity.raft_group_id.0 == 0 {
-        return Checked::Refused(Refusal::ZeroRaftGroupId);
+        return Err(Refusal::ZeroRaftGroupId);
     }
     if identity.replica_id.0 == 0 {
-        return Checked::Refused(Refusal::ZeroReplicaId);
+        return Err(Refusal::ZeroReplicaId);
     }
     if MAX_BATCH_ENTRIES < batch.entries.count {
-        return Checked::Refused(Refusal::TooManyEntries);
+        return Err(Refusal::TooManyEntries);
     }
-    let snapshot = batch.snapshot;
-    let hard_state = batch.hard_state;
-    if pointer_alone(snapshot, hard_state) {
-        return Checked::Refused(Refusal::SnapshotWithoutHardState);
+    if pointer_alone(batch.snapshot, batch.hard_state) {
+        return Err(Refusal::SnapshotWithoutHardState);
     }
-    Checked::Ok
+    Ok(())
 }

@@ -1,5 +1,6 @@
 -- The commit of a lent header is advanced as the definition says.
 -- Assumes nothing.
+use Rattle.std.specs.Prelude.{Result}
 use mathlib.Core.Path.{◌≡◌, refl, sym, ap, subst, ◌∙◌}
 use mathlib.Core.Bool.{Bool, true, false, cond}
 use mathlib.Core.List.{List, [], ◌∷◌}
@@ -9,13 +10,13 @@ use Rattle.definition.specs.Table.{◌<?◌, ◌when◌, first_of}
 use Rattle.definition.specs.Records.{HardState}
 use Rattle.definition.specs.Log.{view_commit_regression}
 use Rattle.definition.proofs.Laws.{none_some}
-use Rattle.ids.specs.declared.Checked.{Checked}
 use Rattle.ids.specs.Refusal.{checked_of}
 use Rattle.view.specs.declared.Header.{Header}
 use Rattle.view.specs.declared.RecoveredRaftLogEntry.{RecoveredRaftLogEntry}
 use Rattle.view.specs.Meaning.{view_of, with_committed}
 use Rattle.view.specs.Model.{with_commit}
 use Rattle.lent.specs.Commit.{commit_row, advanced_to, SameButCommit, AdvancesCommit}
+use Rattle.ids.specs.declared.Refusal.{Refusal}
 
 -- h itself is one of these: with the commit that it has.
 same : (h : Header) (commit : ℕ) → SameButCommit h (with_commit h commit)
@@ -33,7 +34,7 @@ same h commit =
       progress = refl;
     }
 
-module _ (h : Header) (commit : ℕ) (r : Checked) (e : checked_of r ≡ first_of (commit_row h commit ∷ [])) where
+module _ (h : Header) (commit : ℕ) (r : Result (Unit {0}) Refusal) (e : checked_of r ≡ first_of (commit_row h commit ∷ [])) where
   answers : (x : HardState) → x.commit ≡ commit → (es : List RecoveredRaftLogEntry) (cs : List ℕ) → checked_of r ≡ first_of (view_commit_regression x (view_of h es cs) ∷ [])
   unfolding view_of
   answers x q es cs = e ∙ ap (λ (n : ℕ). first_of ((38 when n <? h.committed_index) ∷ [])) (sym q)

@@ -8,8 +8,8 @@ use native.Mathlib.Omega.{arith}
 use borrow.Author.Tests.{leb-true, leb-false, ltb-true, ltb-false, lt-leb}
 use lib.Dec.{leb, ltb}
 use lib.ListN.{length, get_or, take, length-map}
-use Rattle.std.specs.Prelude.{if◌then◌else◌}
-use Rattle.definition.specs.Table.{◌=?◌, refusal}
+use Rattle.std.specs.Prelude.{if◌then◌else◌, Result, Ok, Err}
+use Rattle.definition.specs.Table.{◌=?◌}
 use Rattle.definition.specs.Records as D
 use Rattle.definition.specs.Recovery.{replica_of, ask}
 use Rattle.definition.specs.Batch as M
@@ -26,8 +26,6 @@ use Rattle.soundness.specs.Sound.{sound_test}
 use Rattle.batches.specs.declared.BatchEntries.{BatchEntries}
 use Rattle.batches.specs.declared.RaftPersistenceBatch.{RaftPersistenceBatch}
 use Rattle.batches.specs.Meaning.{payload_numbered, payload_from, entry_at, entries_of, batch_of}
-use Rattle.preview.specs.declared.Prepared.{Prepared}
-use Rattle.preview.specs.declared.Prepared.TheVariants as P
 use Rattle.persistence.specs.declared.PreparedRecord.{PreparedRecord}
 use Rattle.persistence.specs.declared.PreparedBatch.{PreparedBatch}
 use Rattle.persistence.specs.Answer.{pointer_records, hard_state_records, entry_record, entry_records, records_in, prepared_with, answer_with, answer_of, bodies_in, PreparesBatch}
@@ -35,6 +33,7 @@ use Rattle.lent.specs.declared.BatchEntry.{BatchEntry}
 use Rattle.lent.specs.Entries.{no_entry, entry_in, entry_from, first_number}
 use Rattle.lent.specs.Batch.{entry_over, entries_over, batch_over, record_over, records_over, answer_over, PreparesList}
 use Rattle.lent.proofs.Prepares.{over_from, prepare_over, not_ready}
+use Rattle.ids.specs.declared.Refusal.{Refusal}
 
 payload_read : (kind first second : ℕ) (lent : List ℕ) → payload_of (payload_from kind first second) lent ≡ payload_numbered kind first second lent
 payload_read kind first second lent = go (kind =? 0) (kind =? 1) (kind =? 2)
@@ -113,10 +112,10 @@ module _ (s : RecoveredRaftStorage) (st : List ℕ) (d : RaftReplicaIdentity) (b
   few_batch : count ≤ 32 → asked count ≡ batch_of b lent
   few_batch few = λ j. record { snapshot = maybe_pointer_of b.snapshot; entries = entries_read b.entries few lent j; hard_state = maybe_hard_state_of b.hard_state }
 
-  few_answer : count ≤ 32 → (a : Prepared) → answer_over a d b.snapshot (take count (tab 64 (entry_from b.entries))) b.hard_state ≡ answer_with a d b
+  few_answer : count ≤ 32 → (a : Result (Unit {0}) Refusal) → answer_over a d b.snapshot (take count (tab 64 (entry_from b.entries))) b.hard_state ≡ answer_with a d b
   unfolding records_in records_over
-  few_answer few P.Ready = ap (λ (l : List PreparedRecord). prepared_with ((pointer_records b.snapshot ++ l) ++ hard_state_records d b.hard_state)) (records_read b.entries few d)
-  few_answer few (P.Refused why) = refl
+  few_answer few (Ok _) = ap (λ (l : List PreparedRecord). prepared_with ((pointer_records b.snapshot ++ l) ++ hard_state_records d b.hard_state)) (records_read b.entries few d)
+  few_answer few (Err why) = refl
 
   few_list : count ≤ 32 → Lists count → PreparesBatch s st d b lent r
   few_list few k =
@@ -143,16 +142,16 @@ module _ (s : RecoveredRaftStorage) (st : List ℕ) (d : RaftReplicaIdentity) (b
     over_same : M.prepare (recovery_of s st) (identity_of d) (asked n) ≡ M.prepare (recovery_of s st) (identity_of d) (batch_of b lent)
     over_same = prepare_over _ _ (asked n) long_list ∙ sym (prepare_over _ _ (batch_of b lent) long_batch)
 
-    over_refused : Lists n → answer_of lent r ≡ refusal (if sound_test s st then over_from (ask (replica_of (identity_of d)) (recovery_of s st)) (identity_of d) else 1)
+    over_refused : Lists n → answer_of lent r ≡ Err (if sound_test s st then over_from (ask (replica_of (identity_of d)) (recovery_of s st)) (identity_of d) else 1)
     over_refused k = go (sound_test s st) refl
       where
-        go : (t : Bool) → sound_test s st ≡ t → answer_of lent r ≡ refusal (if t then over_from (ask (replica_of (identity_of d)) (recovery_of s st)) (identity_of d) else 1)
+        go : (t : Bool) → sound_test s st ≡ t → answer_of lent r ≡ Err (if t then over_from (ask (replica_of (identity_of d)) (recovery_of s st)) (identity_of d) else 1)
         go true u = k.means u ∙ ap bodies_in (prepare_over _ _ (asked n) long_list)
         go false u = k.refused u
 
-    over_answer : {m : ℕ} → answer_of lent r ≡ refusal m → (a : Prepared) → r.answer ≡ a → answer_over a d b.snapshot (take n (tab 64 (entry_from b.entries))) b.hard_state ≡ answer_with a d b
-    over_answer e P.Ready q = absurd (not_ready lent r e q)
-    over_answer e (P.Refused why) q = refl
+    over_answer : {m : ℕ} → answer_of lent r ≡ Err m → (a : Result (Unit {0}) Refusal) → r.answer ≡ a → answer_over a d b.snapshot (take n (tab 64 (entry_from b.entries))) b.hard_state ≡ answer_with a d b
+    over_answer e (Ok _) q = absurd (not_ready lent r e q)
+    over_answer e (Err why) q = refl
 
     over_list : Lists n → PreparesBatch s st d b lent r
     over_list k =

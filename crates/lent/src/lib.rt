@@ -11,20 +11,20 @@ ghost use Rattle.lent.specs.Entries.{no_entry, entry_from, no_entries, change_nu
 ghost use Rattle.lent.specs.Batch.{batch_with, PreparesList};
 
 use batches::{BatchEntries, MAX_BATCH_ENTRIES, RaftPersistenceBatch, batch};
-use codec::{ConfChangeKind, DurableRaftEntryPayload, MaybeHardState, MaybePointer};
-use ids::{Checked, RaftReplicaIdentity, Refusal};
+use codec::{ConfChangeKind, DurableRaftEntryPayload, HardState, RaftSnapshotPointerRecord};
+use ids::{RaftReplicaIdentity, Refusal};
 use persistence::PreparedBatch;
 use storage::RecoveredRaftStorage;
 use view::Header;
 
 // Whether a commit may be advanced to (38).
-fn check_commit(head: Header, commit: u64) -> Checked
+fn check_commit(head: Header, commit: u64) -> Result<(), Refusal>
     ensures { checked_of result ≡ first_of (commit_row head commit ∷ []) }
 {
     if commit < head.committed_index {
-        return Checked::Refused(Refusal::ViewCommitRegression);
+        return Err(Refusal::ViewCommitRegression);
     }
-    Checked::Ok
+    Ok(())
 }
 
 // The header with the commit advanced; as it was where that is refused.
@@ -38,7 +38,7 @@ fn advanced(head: Header, commit: u64) -> Header
 }
 
 // The view's commit is advanced in the header that was lent.
-pub fn advance_commit(header: &mut Header, commit: u64) -> Checked
+pub fn advance_commit(header: &mut Header, commit: u64) -> Result<(), Refusal>
     ensures { AdvancesCommit header.old commit result header.new }
 {
     let answer = check_commit(*header, commit);
@@ -178,9 +178,9 @@ fn prepare_entries(
     state: RecoveredRaftStorage,
     store: &[u8],
     identity: RaftReplicaIdentity,
-    snapshot: MaybePointer,
+    snapshot: Option<RaftSnapshotPointerRecord>,
     entries: BatchEntries,
-    hard_state: MaybeHardState,
+    hard_state: Option<HardState>,
     lent: &[u8],
 ) -> PreparedBatch
     ensures { PreparesBatch state store.now identity (batch_with snapshot entries hard_state) lent.now result }
@@ -198,9 +198,9 @@ pub fn prepare_batch(
     state: RecoveredRaftStorage,
     store: &[u8],
     identity: RaftReplicaIdentity,
-    snapshot: MaybePointer,
+    snapshot: Option<RaftSnapshotPointerRecord>,
     entries: &[BatchEntry],
-    hard_state: MaybeHardState,
+    hard_state: Option<HardState>,
     lent: &[u8],
 ) -> PreparedBatch
     ensures { PreparesList state store.now identity snapshot entries.now hard_state lent.now result }
@@ -214,10 +214,10 @@ fn prepare_first(
     state: RecoveredRaftStorage,
     store: &[u8],
     identity: RaftReplicaIdentity,
-    snapshot: MaybePointer,
+    snapshot: Option<RaftSnapshotPointerRecord>,
     entries: [BatchEntry; 64],
     n: usize,
-    hard_state: MaybeHardState,
+    hard_state: Option<HardState>,
     lent: &[u8],
 ) -> PreparedBatch
     requires { n ≤ 64 }

@@ -1,14 +1,14 @@
 -- The answer to a batch is the definition's.
 -- Assumes nothing.
+use Rattle.std.specs.Prelude.{Option, None, Some, Result, Ok, Err}
 use mathlib.Core.Path.{◌≡◌, refl, sym, ap, subst, ◌∙◌}
-use mathlib.Core.Bool.{Bool, true, false, true≢false}
+use mathlib.Core.Bool.{Bool, false, true≢false}
 use mathlib.Core.Logic.{inl, inr}
 use mathlib.Core.List.{List, ◌∷◌, ◌++◌, map-append}
-use mathlib.Core.Option.{none, some}
-use Prim.Native.Nat.{ℕ, zero, suc, ◌+◌, ◌≤◌}
+use Prim.Native.Nat.{ℕ, zero, suc, ◌≤◌}
 use native.Mathlib.Omega.{arith}
 use lib.ListN.{length, get_or}
-use Rattle.definition.specs.Table.{Result, ok, refusal, u64_max}
+use Rattle.definition.specs.Table.{u64_max}
 use Rattle.definition.specs.Records as D
 use Rattle.definition.specs.Recovery.{replica_of}
 use Rattle.definition.specs.Batch as M
@@ -17,12 +17,8 @@ use Rattle.ids.specs.declared.RaftReplicaIdentity.{RaftReplicaIdentity}
 use Rattle.ids.specs.declared.Refusal.{Refusal}
 use Rattle.ids.specs.declared.Refusal.TheVariants as W
 use Rattle.ids.specs.Identity.{identity_of}
-use Rattle.ids.specs.Refusal.{number_of}
+use Rattle.ids.specs.Refusal.{number_of, checked_of}
 use Rattle.store.proofs.Part.{block_own}
-use Rattle.codec.specs.declared.MaybeHardState.{MaybeHardState}
-use Rattle.codec.specs.declared.MaybeHardState.TheVariants as H
-use Rattle.codec.specs.declared.MaybePointer.{MaybePointer}
-use Rattle.codec.specs.declared.MaybePointer.TheVariants as S
 use Rattle.codec.specs.Records.{body_of, maybe_pointer_of, maybe_hard_state_of}
 use Rattle.view.specs.Tab.{tab}
 use Rattle.storage.specs.declared.RecoveredRaftStorage.{RecoveredRaftStorage}
@@ -35,8 +31,7 @@ use Rattle.batches.specs.declared.RaftPersistenceBatch.{RaftPersistenceBatch}
 use Rattle.batches.specs.Meaning.{entry_at, entries_of, batch_of}
 use Rattle.batches.proofs.Entries.{record_kind}
 use Rattle.preview.specs.declared.Extended.{Extended}
-use Rattle.preview.specs.declared.Prepared.{Prepared}
-use Rattle.preview.specs.Preview.{prepared_of, Ran, ran_of}
+use Rattle.preview.specs.Preview.{Ran, ran_of}
 use Rattle.preview.specs.Extends.{records_of}
 use Rattle.persistence.specs.Prepares as R
 use Rattle.persistence.specs.Tries.{tried_on}
@@ -45,6 +40,8 @@ use Rattle.persistence.specs.declared.PreparedBatch.{PreparedBatch}
 use Rattle.persistence.specs.Answer.{blanks, pointer_records, hard_state_records, entry_record, entry_records, records_in, prepared_with, refused_with, answer_with, bodies_of, answer_of, said_by, bodies_in, PreparesBatch}
 use Rattle.persistence.proofs.Recorded.{pointer_few, hard_state_few, records_length}
 use Rattle.persistence.proofs.Tried.{tried, prepare_sound, prepare_unsound}
+use Rattle.codec.specs.declared.HardState.{HardState}
+use Rattle.codec.specs.declared.RaftSnapshotPointerRecord.{RaftSnapshotPointerRecord}
 
 -- The records mean the definition's.
 entries_mean : (lent : List ℕ) (i : D.Identity) (n : ℕ) (f : ℕ → PreparedRecord) (g : ℕ → M.BatchEntry) → ((k : ℕ) → body_of (f k).body lent ≡ D.raft i (D.entry 1 (g k).log_entry))
@@ -53,13 +50,13 @@ unfolding tab
 entries_mean lent i zero f g e = refl
 entries_mean lent i (suc n) f g e = λ x. e 0 x ∷ entries_mean lent i n (λ k. f (suc k)) (λ k. g (suc k)) (λ k. e (suc k)) x
 
-pointer_means : (lent : List ℕ) (s : MaybePointer) → bodies_of lent (pointer_records s) ≡ said_by (R.pointer_records (maybe_pointer_of s))
-pointer_means lent S.None = refl
-pointer_means lent (S.Some p) = refl
+pointer_means : (lent : List ℕ) (s : Option RaftSnapshotPointerRecord) → bodies_of lent (pointer_records s) ≡ said_by (R.pointer_records (maybe_pointer_of s))
+pointer_means lent None = refl
+pointer_means lent (Some p) = refl
 
-hard_state_means : (lent : List ℕ) (d : RaftReplicaIdentity) (h : MaybeHardState) → bodies_of lent (hard_state_records d h) ≡ said_by (R.hard_state_records (identity_of d) (maybe_hard_state_of h))
-hard_state_means lent d H.None = refl
-hard_state_means lent d (H.Some h) = refl
+hard_state_means : (lent : List ℕ) (d : RaftReplicaIdentity) (h : Option HardState) → bodies_of lent (hard_state_records d h) ≡ said_by (R.hard_state_records (identity_of d) (maybe_hard_state_of h))
+hard_state_means lent d None = refl
+hard_state_means lent d (Some h) = refl
 
 module _ (d : RaftReplicaIdentity) (b : RaftPersistenceBatch) (lent : List ℕ) where
   abbrev means : PreparedRecord → D.Body
@@ -85,24 +82,24 @@ module _ (d : RaftReplicaIdentity) (b : RaftPersistenceBatch) (lent : List ℕ) 
       (sym (map-append says (R.pointer_records (maybe_pointer_of b.snapshot)) (records_of (identity_of d) (entries_of b.entries lent))))
       ∙ sym (map-append says (R.pointer_records (maybe_pointer_of b.snapshot) ++ records_of (identity_of d) (entries_of b.entries lent)) (R.hard_state_records (identity_of d) (maybe_hard_state_of b.hard_state)))
 
-  ready_means : b.entries.count ≤ 32 → answer_of lent (prepared_with (records_in d b)) ≡ ok (said_by (R.batch_records (identity_of d) (batch_of b lent)))
+  ready_means : b.entries.count ≤ 32 → answer_of lent (prepared_with (records_in d b)) ≡ Ok (said_by (R.batch_records (identity_of d) (batch_of b lent)))
   unfolding answer_of
   ready_means few =
       let l : length (records_in d b) ≤ 34 = omega (arith, records_length d b, pointer_few b.snapshot, hard_state_few b.hard_state) in
-      ap (λ (x : List PreparedRecord). ok (bodies_of lent x)) (block_own blanks 0 (records_in d b) (length (records_in d b)) refl (omega arith)) ∙ ap ok records_mean
+      ap (λ (x : List PreparedRecord). Ok (bodies_of lent x)) (block_own blanks 0 (records_in d b) (length (records_in d b)) refl (omega arith)) ∙ ap Ok records_mean
 
-refused_means : (lent : List ℕ) (why : Refusal) → answer_of lent (refused_with why) ≡ refusal (number_of why)
+refused_means : (lent : List ℕ) (why : Refusal) → answer_of lent (refused_with why) ≡ Err (number_of why)
 unfolding answer_of
 refused_means lent why = refl
 
 -- What the preparation says, where it is refused and where it is not.
-refusal_says : {x : Ran} {l : M.Prepared} {whole : Result M.Preview} {n : ℕ} → R.Prepares x l whole → x.refused ≡ some n → whole ≡ refusal n
-refusal_says {n = n} (inl a) e = a.says ∙ ap refusal (let z : a.number ≡ n = cc (sym a.refused ∙ e) in z)
+refusal_says : {x : Ran} {l : M.Prepared} {whole : Result M.Preview ℕ} {n : ℕ} → R.Prepares x l whole → x.refused ≡ Some n → whole ≡ Err n
+refusal_says {n = n} (inl a) e = a.says ∙ ap Err (let z : a.number ≡ n = cc (sym a.refused ∙ e) in z)
 refusal_says (inr a) e = absurd (none_some (sym a.refused ∙ e))
 
-ready_says : {x : Ran} {l : M.Prepared} {whole : Result M.Preview} → R.Prepares x l whole → x.refused ≡ none → bodies_in whole ≡ ok (said_by l)
+ready_says : {x : Ran} {l : M.Prepared} {whole : Result M.Preview ℕ} → R.Prepares x l whole → x.refused ≡ None → bodies_in whole ≡ Ok (said_by l)
 ready_says (inl a) e = absurd (none_some (sym e ∙ a.refused))
-ready_says (inr a) e = ap bodies_in a.says ∙ ap (λ (y : M.Prepared). ok (said_by y)) a.records
+ready_says (inr a) e = ap bodies_in a.says ∙ ap (λ (y : M.Prepared). Ok (said_by y)) a.records
 
 module _ {s : RecoveredRaftStorage} {st : List ℕ} {d : RaftReplicaIdentity} (b : RaftPersistenceBatch) (lent : List ℕ) where
   -- Not sound.
@@ -121,7 +118,7 @@ module _ {s : RecoveredRaftStorage} {st : List ℕ} {d : RaftReplicaIdentity} (b
     abbrev ran : Ran
     ran = tried_on s st d b lent o
 
-    abbrev whole : Result M.Preview
+    abbrev whole : Result M.Preview ℕ
     whole = M.prepare_on (identity_of d) (batch_of b lent) (replica_of (identity_of d) (meaning s st))
 
     sound_answer : (r : PreparedBatch) → answer_of lent r ≡ bodies_in whole → r ≡ answer_with r.answer d b → PreparesBatch s st d b lent r
@@ -133,16 +130,16 @@ module _ {s : RecoveredRaftStorage} {st : List ℕ} {d : RaftReplicaIdentity} (b
           places = p;
         }
 
-    pub answers_refused : (why : Refusal) {r : PreparedBatch} → ran.refused ≡ some (number_of why) → r ≡ refused_with why → PreparesBatch s st d b lent r
+    pub answers_refused : (why : Refusal) {r : PreparedBatch} → ran.refused ≡ Some (number_of why) → r ≡ refused_with why → PreparesBatch s st d b lent r
     answers_refused why q e =
         subst (PreparesBatch s st d b lent) (sym e)
         (sound_answer (refused_with why) (refused_means lent why ∙ sym (ap bodies_in (refusal_says (tried w b lent small) q))) refl)
 
-    pub answers_ready : {r : PreparedBatch} → ran.refused ≡ none → b.entries.count ≤ 32 → r ≡ prepared_with (records_in d b) → PreparesBatch s st d b lent r
+    pub answers_ready : {r : PreparedBatch} → ran.refused ≡ None → b.entries.count ≤ 32 → r ≡ prepared_with (records_in d b) → PreparesBatch s st d b lent r
     answers_ready q few e =
         subst (PreparesBatch s st d b lent) (sym e)
         (sound_answer (prepared_with (records_in d b)) (ready_means d b lent few ∙ sym (ready_says (tried w b lent small) q)) refl)
 
 -- What was tried is told by the answer.
-pub told_refused : (r : Extended) (x : Ran) (a : Prepared) → ran_of r x.bytes ≡ x → r.answer ≡ a → x.refused ≡ prepared_of a
-told_refused r x a e q = sym (ap (λ (y : Ran). y.refused) e) ∙ ap prepared_of q
+pub told_refused : (r : Extended) (x : Ran) (a : Result (Unit {0}) Refusal) → ran_of r x.bytes ≡ x → r.answer ≡ a → x.refused ≡ checked_of a
+told_refused r x a e q = sym (ap (λ (y : Ran). y.refused) e) ∙ ap checked_of q

@@ -1,8 +1,8 @@
 -- What the parts of a preparation did is what the model does.
 -- Assumes nothing.
+use Rattle.std.specs.Prelude.{Option, None, Some, Result, Ok, Err}
 use mathlib.Core.Path.{◌≡◌, refl, sym, ap, subst, ◌∙◌}
 use mathlib.Core.List.{List, [], ◌∷◌, ◌++◌}
-use mathlib.Core.Option.{Option, none}
 use Prim.Native.Nat.{ℕ, ◌+◌, ◌<◌, ◌≤◌}
 use native.Mathlib.Omega.{arith}
 use borrow.Author.Tests.{leb-false, ltb-false}
@@ -12,39 +12,31 @@ use Rattle.definition.specs.Records.{Identity}
 use Rattle.definition.specs.Log as D
 use Rattle.definition.specs.Batch as M
 use Rattle.definition.proofs.Laws.{clear, clear_r}
-use Rattle.ids.specs.declared.Checked.{Checked}
-use Rattle.ids.specs.declared.Checked.TheVariants as C
 use Rattle.ids.specs.declared.RaftReplicaIdentity.{RaftReplicaIdentity}
 use Rattle.ids.specs.declared.Refusal.{Refusal}
 use Rattle.ids.specs.Identity.{identity_of}
 use Rattle.ids.specs.Refusal.{checked_of}
 use Rattle.codec.specs.declared.HardState.{HardState}
-use Rattle.codec.specs.declared.MaybeHardState.{MaybeHardState}
-use Rattle.codec.specs.declared.MaybePointer.{MaybePointer}
-use Rattle.codec.specs.declared.MaybePointer.TheVariants as S
 use Rattle.codec.specs.declared.RaftSnapshotPointerRecord.{RaftSnapshotPointerRecord}
 use Rattle.codec.specs.Records.{pointer_record_of}
 use Rattle.view.specs.declared.Header.{Header}
-use Rattle.view.specs.declared.MaybeTerm.{MaybeTerm}
 use Rattle.view.specs.Decisions.{successor_rows_of, install_rows_of}
 use Rattle.view.specs.Meaning.{view_of}
 use Rattle.view.specs.Model.{with_pointer, covered_by, maximum_term, dropped_bytes}
 use Rattle.view.specs.Readers.{last_of}
 use Rattle.batches.specs.declared.RaftPersistenceBatch.{RaftPersistenceBatch}
 use Rattle.preview.specs.declared.Extended.{Extended}
-use Rattle.preview.specs.declared.Prepared.{Prepared}
-use Rattle.preview.specs.declared.Prepared.TheVariants as P
 use Rattle.preview.specs.declared.Preview.{Preview}
 use Rattle.batches.specs.Checks.{lsn_exhausted, pointer_form_rows, pointer_rows, hard_state_rows, term_rows}
 use Rattle.batches.specs.Meaning.{entries_of, batch_of}
-use Rattle.preview.specs.Preview.{prepared_of, Ran, ran_of, ran, formed_by, onward, extend_from, Sits}
+use Rattle.preview.specs.Preview.{Ran, ran_of, ran, formed_by, onward, extend_from, Sits}
 use Rattle.persistence.specs.Prepare.{held_at, moved_down, pointed_with, point_ran, hard_header, hardened_with, harden_ran, conclude_ran, point_in, harden_in, followed, lastly_ran, entries_ran, pointed_ran, prepare_ran}
 use Rattle.persistence.specs.Prepares.{Stands}
 use Rattle.batches.proofs.Entries.{entries_count}
 use Rattle.persistence.proofs.Prepared.{point_next}
 
 -- The pointer.
-module _ (i : Identity) (p : Preview) (r : RaftSnapshotPointerRecord) (cs : List ℕ) (held : MaybeTerm) (a : Checked)
+module _ (i : Identity) (p : Preview) (r : RaftSnapshotPointerRecord) (cs : List ℕ) (held : Option ℕ) (a : Result (Unit {0}) Refusal)
     (eh : held ≡ held_at p r.last_included_index) (ea : checked_of a ≡ first_of (pointer_rows i p.head p.lsn held r)) where
   abbrev rows : List Row
   rows = pointer_rows i p.head p.lsn (held_at p r.last_included_index) r
@@ -53,14 +45,14 @@ module _ (i : Identity) (p : Preview) (r : RaftSnapshotPointerRecord) (cs : List
   k = covered_by p.head r.last_included_index
 
   told : checked_of a ≡ first_of rows
-  told = ea ∙ ap (λ (x : MaybeTerm). first_of (pointer_rows i p.head p.lsn x r)) eh
+  told = ea ∙ ap (λ (x : Option ℕ). first_of (pointer_rows i p.head p.lsn x r)) eh
 
-  pub point_out : (why : Refusal) → a ≡ C.Refused why → ran_of (record { answer = P.Refused why; preview = p }) cs ≡ point_ran i p r cs
+  pub point_out : (why : Refusal) → a ≡ Err why → ran_of (record { answer = Err why; preview = p }) cs ≡ point_ran i p r cs
   unfolding point_ran
   point_out why e = ap (λ (o : Option ℕ). formed_by o p cs (pointed_with p r k cs)) (sym (ap checked_of e) ∙ told)
 
-  module _ (e : a ≡ C.Ok) where
-    no_row : none ≡ first_of rows
+  module _ (e : a ≡ (Ok tt)) where
+    no_row : None ≡ first_of rows
     no_row = sym (ap checked_of e) ∙ told
 
     pub point_lsn : p.lsn < u64_max
@@ -71,83 +63,82 @@ module _ (i : Identity) (p : Preview) (r : RaftSnapshotPointerRecord) (cs : List
         leb-false u64_max p.lsn (clear_r (successor_rows_of i p.head.snapshot r) after c.1.1.1.1.1.1.1.1).0
 
     pub point_in_lem : (n : ℕ) (h : Header) (t : Preview) (cs' : List ℕ) → n ≡ k → h ≡ with_pointer p.head r (record { 0 = p.lsn + 1 }) n → t ≡ moved_down p n → cs' ≡ dropped_bytes cs n
-        → ran_of (record { answer = P.Ready; preview = record { head = h; entries = t.entries; lsn = p.lsn + 1 } }) cs' ≡ point_ran i p r cs
+        → ran_of (record { answer = (Ok tt); preview = record { head = h; entries = t.entries; lsn = p.lsn + 1 } }) cs' ≡ point_ran i p r cs
     unfolding point_ran
     point_in_lem n h t cs' en eh et ec =
-        ap (λ (x : Header). ran none (record { head = x; entries = t.entries; lsn = p.lsn + 1 }) cs') eh
-        ∙ ap (λ (x : Preview). ran none (record { head = with_pointer p.head r (record { 0 = p.lsn + 1 }) n; entries = x.entries; lsn = p.lsn + 1 }) cs') et
-        ∙ ap (λ (x : List ℕ). ran none (pointed_with p r n cs).preview x) ec
+        ap (λ (x : Header). ran None (record { head = x; entries = t.entries; lsn = p.lsn + 1 }) cs') eh
+        ∙ ap (λ (x : Preview). ran None (record { head = with_pointer p.head r (record { 0 = p.lsn + 1 }) n; entries = x.entries; lsn = p.lsn + 1 }) cs') et
+        ∙ ap (λ (x : List ℕ). ran None (pointed_with p r n cs).preview x) ec
         ∙ ap (λ (x : ℕ). pointed_with p r x cs) en
         ∙ ap (λ (o : Option ℕ). formed_by o p cs (pointed_with p r k cs)) no_row
 
 -- Where a pointer, if there is one, is taken, the preview still fits its block.
 module _ (i : Identity) (p : Preview) (cs : List ℕ) (s : Sits p cs) where
-  pointed_fits : (x : MaybePointer) → (point_in i p x cs).refused ≡ none → Sits (point_in i p x cs).preview (point_in i p x cs).bytes
-  pointed_fits S.None w = s
-  pointed_fits (S.Some r) w =
+  pointed_fits : (x : Option RaftSnapshotPointerRecord) → (point_in i p x cs).refused ≡ None → Sits (point_in i p x cs).preview (point_in i p x cs).bytes
+  pointed_fits None w = s
+  pointed_fits (Some r) w =
       let v : M.Preview = record { log = view_of p.head p.entries cs; lsn = p.lsn; records = [] } in
       let y : Stands (point_ran i p r cs) (M.preview_pointer (pointer_record_of r) v) =
       point_next i p cs v (record { view = refl; fits = s.fits; places = s.places; bytes = s.bytes }) refl r w in
       record { fits = y.means.fits; places = y.means.places; bytes = y.means.bytes }
 
-  pub pointed_sits : (x : MaybePointer) (d : Extended) (cs' : List ℕ) → ran_of d cs' ≡ point_in i p x cs → d.answer ≡ P.Ready → Sits d.preview cs'
+  pub pointed_sits : (x : Option RaftSnapshotPointerRecord) (d : Extended) (cs' : List ℕ) → ran_of d cs' ≡ point_in i p x cs → d.answer ≡ (Ok tt) → Sits d.preview cs'
   pointed_sits x d cs' et e =
-      subst (λ (y : Ran). Sits y.preview y.bytes) (sym et) (pointed_fits x (sym (ap (λ (y : Ran). y.refused) et) ∙ ap prepared_of e))
+      subst (λ (y : Ran). Sits y.preview y.bytes) (sym et) (pointed_fits x (sym (ap (λ (y : Ran). y.refused) et) ∙ ap checked_of e))
 
 -- The hard state.
-module _ (kept : MaybeHardState) (snapshot : MaybePointer) (h : HardState) (p : Preview) (last : ℕ) (a : Checked)
+module _ (kept : Option HardState) (snapshot : Option RaftSnapshotPointerRecord) (h : HardState) (p : Preview) (last : ℕ) (a : Result (Unit {0}) Refusal)
     (el : last ≡ last_of p.head) (ea : checked_of a ≡ first_of (hard_state_rows kept snapshot last h)) where
   hard_told : checked_of a ≡ first_of (hard_state_rows kept snapshot (last_of p.head) h)
   hard_told = ea ∙ ap (λ (x : ℕ). first_of (hard_state_rows kept snapshot x h)) el
 
-  pub harden_out : (why : Refusal) → a ≡ C.Refused why → (cs : List ℕ) → ran_of (record { answer = P.Refused why; preview = p }) cs ≡ harden_ran kept snapshot h p cs
+  pub harden_out : (why : Refusal) → a ≡ Err why → (cs : List ℕ) → ran_of (record { answer = Err why; preview = p }) cs ≡ harden_ran kept snapshot h p cs
   unfolding harden_ran
-  harden_out why e cs = ap (λ (o : Option ℕ). formed_by o p cs (ran none (hardened_with p h) cs)) (sym (ap checked_of e) ∙ hard_told)
+  harden_out why e cs = ap (λ (o : Option ℕ). formed_by o p cs (ran None (hardened_with p h) cs)) (sym (ap checked_of e) ∙ hard_told)
 
-  pub harden_in_lem : (x : Header) → a ≡ C.Ok → x ≡ hard_header p.head h → (cs : List ℕ)
-      → ran_of (record { answer = P.Ready; preview = record { head = x; entries = p.entries; lsn = p.lsn } }) cs ≡ harden_ran kept snapshot h p cs
+  pub harden_in_lem : (x : Header) → a ≡ (Ok tt) → x ≡ hard_header p.head h → (cs : List ℕ)
+      → ran_of (record { answer = (Ok tt); preview = record { head = x; entries = p.entries; lsn = p.lsn } }) cs ≡ harden_ran kept snapshot h p cs
   unfolding harden_ran
   harden_in_lem x e ex cs =
-      ap (λ (y : Header). ran none (record { head = y; entries = p.entries; lsn = p.lsn }) cs) ex
-      ∙ ap (λ (o : Option ℕ). formed_by o p cs (ran none (hardened_with p h) cs)) (sym (ap checked_of e) ∙ hard_told)
+      ap (λ (y : Header). ran None (record { head = y; entries = p.entries; lsn = p.lsn }) cs) ex
+      ∙ ap (λ (o : Option ℕ). formed_by o p cs (ran None (hardened_with p h) cs)) (sym (ap checked_of e) ∙ hard_told)
 
 -- The terms.
-module _ (hard kept : MaybeHardState) (p : Preview) (largest : ℕ) (a : Checked) (el : largest ≡ maximum_term p.head p.entries)
+module _ (hard kept : Option HardState) (p : Preview) (largest : ℕ) (a : Result (Unit {0}) Refusal) (el : largest ≡ maximum_term p.head p.entries)
     (ea : checked_of a ≡ first_of (term_rows hard kept p.head.snapshot_term largest)) where
   terms_told : checked_of a ≡ first_of (term_rows hard kept p.head.snapshot_term (maximum_term p.head p.entries))
   terms_told = ea ∙ ap (λ (x : ℕ). first_of (term_rows hard kept p.head.snapshot_term x)) el
 
-  pub conclude_out : (why : Refusal) → a ≡ C.Refused why
-      → prepared_of (P.Refused why) ≡ first_of (term_rows hard kept p.head.snapshot_term (maximum_term p.head p.entries))
+  pub conclude_out : (why : Refusal) → a ≡ Err why
+      → checked_of (Err why) ≡ first_of (term_rows hard kept p.head.snapshot_term (maximum_term p.head p.entries))
   conclude_out why e = sym (ap checked_of e) ∙ terms_told
 
-  pub conclude_in : a ≡ C.Ok → prepared_of P.Ready ≡ first_of (term_rows hard kept p.head.snapshot_term (maximum_term p.head p.entries))
+  pub conclude_in : a ≡ (Ok tt) → checked_of (Ok tt) ≡ first_of (term_rows hard kept p.head.snapshot_term (maximum_term p.head p.entries))
   conclude_in e = sym (ap checked_of e) ∙ terms_told
 
-pub concluded_is : (hard kept : MaybeHardState) (p : Preview) (o : Prepared)
-    → prepared_of o ≡ first_of (term_rows hard kept p.head.snapshot_term (maximum_term p.head p.entries)) → (cs : List ℕ)
+pub concluded_is : (hard kept : Option HardState) (p : Preview) (o : Result (Unit {0}) Refusal)
+    → checked_of o ≡ first_of (term_rows hard kept p.head.snapshot_term (maximum_term p.head p.entries)) → (cs : List ℕ)
     → ran_of (record { answer = o; preview = p }) cs ≡ conclude_ran hard kept p cs
 unfolding conclude_ran
 concluded_is hard kept p o e cs = ap (λ (x : Option ℕ). ran x p cs) e
 
 -- One part after another.
 module _ (d : Extended) (cs : List ℕ) (x : Ran) (rest : Preview → List ℕ → Ran) (et : ran_of d cs ≡ x) where
-  pub followed_out : (why : Refusal) → d.answer ≡ P.Refused why → ran_of (record { answer = P.Refused why; preview = d.preview }) cs ≡ followed x rest
+  pub followed_out : (why : Refusal) → d.answer ≡ Err why → ran_of d cs ≡ followed x rest
   followed_out why e =
-      ap (λ (a : Prepared). ran_of (record { answer = a; preview = d.preview }) cs) (sym e)
-      ∙ sym (ap (λ (o : Option ℕ). onward o (ran_of d cs) (rest d.preview cs)) (ap prepared_of e))
+      sym (ap (λ (o : Option ℕ). onward o (ran_of d cs) (rest d.preview cs)) (ap checked_of e))
       ∙ ap (λ (y : Ran). followed y rest) et
 
-  pub followed_in : (y : Ran) → d.answer ≡ P.Ready → y ≡ rest d.preview cs → y ≡ followed x rest
+  pub followed_in : (y : Ran) → d.answer ≡ (Ok tt) → y ≡ rest d.preview cs → y ≡ followed x rest
   followed_in y e ey =
-      ey ∙ sym (ap (λ (o : Option ℕ). onward o (ran_of d cs) (rest d.preview cs)) (ap prepared_of e)) ∙ ap (λ (z : Ran). followed z rest) et
+      ey ∙ sym (ap (λ (o : Option ℕ). onward o (ran_of d cs) (rest d.preview cs)) (ap checked_of e)) ∙ ap (λ (z : Ran). followed z rest) et
 
-pub lastly_is : (snapshot : MaybePointer) (hard kept : MaybeHardState) (p : Preview) (cs : List ℕ)
+pub lastly_is : (snapshot : Option RaftSnapshotPointerRecord) (hard kept : Option HardState) (p : Preview) (cs : List ℕ)
     → followed (harden_in kept snapshot hard p cs) (conclude_ran hard kept) ≡ lastly_ran snapshot hard kept p cs
 unfolding lastly_ran
 lastly_is snapshot hard kept p cs = refl
 
-module _ (d : RaftReplicaIdentity) (b : RaftPersistenceBatch) (kept : MaybeHardState) (lent : List ℕ) (p : Preview) (cs : List ℕ) where
+module _ (d : RaftReplicaIdentity) (b : RaftPersistenceBatch) (kept : Option HardState) (lent : List ℕ) (p : Preview) (cs : List ℕ) where
   pub entries_is : followed (extend_from b.entries.count 0 d b.entries lent p cs) (lastly_ran b.snapshot b.hard_state kept) ≡ entries_ran d b kept lent p cs
   unfolding entries_ran
   entries_is = refl
@@ -157,22 +148,22 @@ module _ (d : RaftReplicaIdentity) (b : RaftPersistenceBatch) (kept : MaybeHardS
   pointed_is = refl
 
 -- The batch as a whole.
-module _ (d : RaftReplicaIdentity) (b : RaftPersistenceBatch) (lent : List ℕ) (p : Preview) (cs : List ℕ) (a : Checked)
+module _ (d : RaftReplicaIdentity) (b : RaftPersistenceBatch) (lent : List ℕ) (p : Preview) (cs : List ℕ) (a : Result (Unit {0}) Refusal)
     (ea : (lent : List ℕ) (was : D.Log ℕ) → checked_of a ≡ first_of (M.batch_rows (identity_of d) (batch_of b lent) was)) where
-  pub batch_few : a ≡ C.Ok → b.entries.count ≤ 32
+  pub batch_few : a ≡ (Ok tt) → b.entries.count ≤ 32
   unfolding M.batch_rows
   batch_few e =
-      let w : first_of (M.batch_rows (identity_of d) (batch_of b lent) (view_of p.head p.entries cs)) ≡ none = sym (ea lent (view_of p.head p.entries cs)) ∙ ap checked_of e in
+      let w : first_of (M.batch_rows (identity_of d) (batch_of b lent) (view_of p.head p.entries cs)) ≡ None = sym (ea lent (view_of p.head p.entries cs)) ∙ ap checked_of e in
       let c = clear (M.batch_rows (identity_of d) (batch_of b lent) (view_of p.head p.entries cs)) w in
       let l : length (entries_of b.entries lent) ≤ 32 = ltb-false 32 (length (entries_of b.entries lent)) c.1.1.0 in
       omega (arith, l, entries_count b.entries lent)
 
-  pub prepare_out : (why : Refusal) → a ≡ C.Refused why → ran_of (record { answer = P.Refused why; preview = p }) cs ≡ prepare_ran d b lent p cs
+  pub prepare_out : (why : Refusal) → a ≡ Err why → ran_of (record { answer = Err why; preview = p }) cs ≡ prepare_ran d b lent p cs
   unfolding prepare_ran
   prepare_out why e =
       ap (λ (o : Option ℕ). formed_by o p cs (pointed_ran d b p.head.hard_state lent p cs)) (sym (ap checked_of e) ∙ ea lent (view_of p.head p.entries cs))
 
-  pub prepare_in : a ≡ C.Ok → (x : Ran) → x ≡ pointed_ran d b p.head.hard_state lent p cs → x ≡ prepare_ran d b lent p cs
+  pub prepare_in : a ≡ (Ok tt) → (x : Ran) → x ≡ pointed_ran d b p.head.hard_state lent p cs → x ≡ prepare_ran d b lent p cs
   unfolding prepare_ran
   prepare_in e x ex =
       ex ∙ ap (λ (o : Option ℕ). formed_by o p cs (pointed_ran d b p.head.hard_state lent p cs)) (sym (ap checked_of e) ∙ ea lent (view_of p.head p.entries cs))

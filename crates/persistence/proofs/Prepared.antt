@@ -1,13 +1,13 @@
 -- The pointer, the hard state and the terms of a batch do to a preview what the definition says, and so does the whole preparation.
 -- Assumes nothing.
+use Rattle.std.specs.Prelude.{Option, None, Some, option_map, Result, Ok}
 use mathlib.Core.Path.{◌≡◌, refl, sym, ap, subst, ◌∙◌}
 use mathlib.Core.Logic.{inl, inr}
 use mathlib.Core.List.{List, [], ◌∷◌, ◌++◌, append-nil}
-use mathlib.Core.Option.{Option, none, some, map}
 use Prim.Native.Nat.{ℕ, ◌+◌, ◌≤◌}
 use native.Mathlib.Omega.{arith}
 use lib.ListN.{length, get_or}
-use Rattle.definition.specs.Table.{Row, first_of, Result, ok, u64_max}
+use Rattle.definition.specs.Table.{Row, first_of, u64_max}
 use Rattle.definition.specs.Records.{Identity}
 use Rattle.definition.specs.Log as D
 use Rattle.definition.specs.Batch as M
@@ -15,17 +15,10 @@ use Rattle.definition.proofs.Laws.{none_some}
 use Rattle.ids.specs.declared.RaftReplicaIdentity.{RaftReplicaIdentity}
 use Rattle.ids.specs.Identity.{identity_of}
 use Rattle.codec.specs.declared.HardState.{HardState}
-use Rattle.codec.specs.declared.MaybeHardState.{MaybeHardState}
-use Rattle.codec.specs.declared.MaybeHardState.TheVariants as H
-use Rattle.codec.specs.declared.MaybePointer.{MaybePointer}
-use Rattle.codec.specs.declared.MaybePointer.TheVariants as S
 use Rattle.codec.specs.declared.RaftSnapshotPointerRecord.{RaftSnapshotPointerRecord}
 use Rattle.codec.specs.Records.{hard_state_of, maybe_hard_state_of, pointer_of, pointer_record_of, maybe_pointer_of}
 use Rattle.view.specs.declared.Header.{Header}
-use Rattle.view.specs.declared.Place.{Place}
-use Rattle.view.specs.declared.Place.TheVariants as Q
 use Rattle.view.specs.declared.RecoveredRaftLogEntry.{RecoveredRaftLogEntry}
-use Rattle.view.specs.Decisions.{maybe_term_of}
 use Rattle.view.specs.Meaning.{no_entry, view_of, Fits, Means}
 use Rattle.view.specs.Model.{covered_by, maximum_term}
 use Rattle.view.specs.Readers.{last_of, place_of, at_place}
@@ -46,12 +39,12 @@ use Rattle.persistence.specs.Prepares.{Stands, Steps, pointer_records, hard_stat
 use Rattle.batches.proofs.Rows.{pointer_rows_lem, hard_state_means, term_means}
 use Rattle.preview.proofs.Extending.{refused_by, passed_by, all_extend}
 
-formed_is : (o : Option ℕ) (p : Preview) (cs : List ℕ) (q : Preview) (ds : List ℕ) → (formed_by o p cs (ran none q ds)).refused ≡ o
-formed_is none p cs q ds = refl
-formed_is (some n) p cs q ds = refl
+formed_is : (o : Option ℕ) (p : Preview) (cs : List ℕ) (q : Preview) (ds : List ℕ) → (formed_by o p cs (ran None q ds)).refused ≡ o
+formed_is None p cs q ds = refl
+formed_is (Some n) p cs q ds = refl
 
 -- A refusal ends it, else what follows is asked.
-ends_followed : (x : Ran) (rest : Preview → List ℕ → Ran) (whole : Result M.Preview) → Ends x whole → Ends (followed x rest) whole
+ends_followed : (x : Ran) (rest : Preview → List ℕ → Ran) (whole : Result M.Preview ℕ) → Ends x whole → Ends (followed x rest) whole
 ends_followed x rest whole a =
     record {
       number = a.number;
@@ -59,23 +52,23 @@ ends_followed x rest whole a =
       says = a.says;
     }
 
-goes_followed : (x : Ran) (rest : Preview → List ℕ → Ran) (l : M.Prepared) (whole : Result M.Preview) → x.refused ≡ none
+goes_followed : (x : Ran) (rest : Preview → List ℕ → Ran) (l : M.Prepared) (whole : Result M.Preview ℕ) → x.refused ≡ None
     → Prepares (rest x.preview x.bytes) l whole → Prepares (followed x rest) l whole
 goes_followed x rest l whole e q = subst (λ (o : Option ℕ). Prepares (onward o x (rest x.preview x.bytes)) l whole) (sym e) q
 
-carry : (x : Ran) (l : M.Prepared) (whole next : Result M.Preview) → whole ≡ next → Prepares x l next → Prepares x l whole
-carry x l whole next e q = subst (λ (w : Result M.Preview). Prepares x l w) (sym e) q
+carry : (x : Ran) (l : M.Prepared) (whole next : Result M.Preview ℕ) → whole ≡ next → Prepares x l next → Prepares x l whole
+carry x l whole next e q = subst (λ (w : Result M.Preview ℕ). Prepares x l w) (sym e) q
 
 -- A part that is refused by the definition's rows, and leaves the definition's preview where it is not.
-steps : (x : Ran) (rows : List Row) (v : M.Preview) (go : M.Preview → Result M.Preview) → first_of rows ≡ x.refused → (x.refused ≡ none → Stands x v)
+steps : (x : Ran) (rows : List Row) (v : M.Preview) (go : M.Preview → Result M.Preview ℕ) → first_of rows ≡ x.refused → (x.refused ≡ None → Stands x v)
     → Steps x v go (M.previewed rows v go)
 steps x rows v go w s = pick x.refused refl
   where
     pick : (o : Option ℕ) → x.refused ≡ o → Steps x v go (M.previewed rows v go)
-    pick (some n) e = inl (record { number = n; refused = e; says = refused_by rows v go n (w ∙ e) })
-    pick none e = inr (record { refused = e; says = passed_by rows v go (w ∙ e); stands = s e })
+    pick (Some n) e = inl (record { number = n; refused = e; says = refused_by rows v go n (w ∙ e) })
+    pick None e = inr (record { refused = e; says = passed_by rows v go (w ∙ e); stands = s e })
 
-follow_step : (x : Ran) (v : M.Preview) (go : M.Preview → Result M.Preview) (whole : Result M.Preview) (rest : Preview → List ℕ → Ran) (l : M.Prepared) → Steps x v go whole
+follow_step : (x : Ran) (v : M.Preview) (go : M.Preview → Result M.Preview ℕ) (whole : Result M.Preview ℕ) (rest : Preview → List ℕ → Ran) (l : M.Prepared) → Steps x v go whole
     → (Stands x v → Prepares (rest x.preview x.bytes) l (go v)) → Prepares (followed x rest) l whole
 follow_step x v go whole rest l (inl a) k = inl (ends_followed x rest whole a)
 follow_step x v go whole rest l (inr a) k =
@@ -90,13 +83,13 @@ module _ (i : Identity) (p : Preview) (cs : List ℕ) (v : M.Preview) (m : Means
     abbrev x : ℕ
     x = r.last_included_index
 
-    told : map (λ o. o.term) (D.at log x) ≡ maybe_term_of (held_at p x)
+    told : option_map (λ o. o.term) (D.at log x) ≡ (held_at p x)
     told = term_at_is p.head p.entries cs x ∙ go (place_of p.head x) refl
       where
-        go : (q : Place) → place_of p.head x ≡ q
-            → at_place q (λ (q : ℕ). (get_or p.entries q no_entry).term) ≡ maybe_term_of (held_term_in q (get_or p.entries (look_of p.head x) no_entry).term)
-        go Q.None w = refl
-        go (Q.Held q) w = ap (λ (y : ℕ). some (get_or p.entries y no_entry).term) (sym (look_held p.head x q m.fits.short w))
+        go : (q : Option ℕ) → place_of p.head x ≡ q
+            → at_place q (λ (q : ℕ). (get_or p.entries q no_entry).term) ≡ (held_term_in q (get_or p.entries (look_of p.head x) no_entry).term)
+        go None w = refl
+        go (Some q) w = ap (λ (y : ℕ). Some (get_or p.entries y no_entry).term) (sym (look_held p.head x q m.fits.short w))
 
     abbrev k : ℕ
     k = covered_by p.head x
@@ -113,13 +106,13 @@ module _ (i : Identity) (p : Preview) (cs : List ℕ) (v : M.Preview) (m : Means
     pointed_log =
         ap (λ (n : ℕ). D.with_pointer (pointer_of r) (n + 1) log) (sym at) ∙ ap (λ (g : D.Log ℕ). D.with_pointer (pointer_of r) (v.lsn + 1) g) m.view
 
-    pub point_next : (point_ran i p r cs).refused ≡ none → Stands (point_ran i p r cs) (M.preview_pointer (pointer_record_of r) v)
+    pub point_next : (point_ran i p r cs).refused ≡ None → Stands (point_ran i p r cs) (M.preview_pointer (pointer_record_of r) v)
     unfolding point_ran
     point_next = go (first_of (pointer_rows i p.head p.lsn (held_at p x) r))
       where
-        go : (o : Option ℕ) → (formed_by o p cs (pointed_with p r k cs)).refused ≡ none → Stands (formed_by o p cs (pointed_with p r k cs)) (M.preview_pointer (pointer_record_of r) v)
-        go (some n) z = absurd (none_some (sym z))
-        go none z =
+        go : (o : Option ℕ) → (formed_by o p cs (pointed_with p r k cs)).refused ≡ None → Stands (formed_by o p cs (pointed_with p r k cs)) (M.preview_pointer (pointer_record_of r) v)
+        go (Some n) z = absurd (none_some (sym z))
+        go None z =
             record {
               means =
                   subst (λ (g : D.Log ℕ). Means (pointed_with p r k cs).preview.head (pointed_with p r k cs).preview.entries (pointed_with p r k cs).bytes g) pointed_log
@@ -128,7 +121,7 @@ module _ (i : Identity) (p : Preview) (cs : List ℕ) (v : M.Preview) (m : Means
             }
 
     -- It is the definition's step.
-    pub points : (b : M.Batch) (go : M.Preview → Result M.Preview)
+    pub points : (b : M.Batch) (go : M.Preview → Result M.Preview ℕ)
         → Steps (point_ran i p r cs) (M.preview_pointer (pointer_record_of r) v) go (M.previewed (M.batch_pointer_rows i b v.log (pointer_record_of r) v) (M.preview_pointer (pointer_record_of r) v) go)
     points b go = steps (point_ran i p r cs) (M.batch_pointer_rows i b v.log (pointer_record_of r) v) (M.preview_pointer (pointer_record_of r) v) go (point_refuses b) point_next
 
@@ -146,19 +139,19 @@ module _ (i : Identity) (p : Preview) (cs : List ℕ) (v : M.Preview) (m : Means
         ap first_of (hard_state_means b lent k ks kcs v p.head p.entries cs (sym m.view) m.fits i h)
         ∙ sym (formed_is (first_of (hard_state_rows k.hard_state b.snapshot (last_of p.head) h)) p cs (hardened_with p h) cs)
 
-    pub harden_next : (h : HardState) → (harden_ran k.hard_state b.snapshot h p cs).refused ≡ none
+    pub harden_next : (h : HardState) → (harden_ran k.hard_state b.snapshot h p cs).refused ≡ None
         → Stands (harden_ran k.hard_state b.snapshot h p cs) (M.preview_hard_state i (hard_state_of h) v)
     unfolding harden_ran
     harden_next h = go (first_of (hard_state_rows k.hard_state b.snapshot (last_of p.head) h))
       where
-        go : (o : Option ℕ) → (formed_by o p cs (ran none (hardened_with p h) cs)).refused ≡ none
-            → Stands (formed_by o p cs (ran none (hardened_with p h) cs)) (M.preview_hard_state i (hard_state_of h) v)
-        go (some n) z = absurd (none_some (sym z))
-        go none z =
+        go : (o : Option ℕ) → (formed_by o p cs (ran None (hardened_with p h) cs)).refused ≡ None
+            → Stands (formed_by o p cs (ran None (hardened_with p h) cs)) (M.preview_hard_state i (hard_state_of h) v)
+        go (Some n) z = absurd (none_some (sym z))
+        go None z =
             record {
               means =
                   record {
-                    view = hard_view p.head p.entries cs (H.Some h) ∙ ap (λ (g : D.Log ℕ). D.with_hard (some (hard_state_of h)) g) m.view;
+                    view = hard_view p.head p.entries cs (Some h) ∙ ap (λ (g : D.Log ℕ). D.with_hard (Some (hard_state_of h)) g) m.view;
                     fits = head_fits m.fits refl refl;
                     places = m.places;
                     bytes = m.bytes;
@@ -166,7 +159,7 @@ module _ (i : Identity) (p : Preview) (cs : List ℕ) (v : M.Preview) (m : Means
               lsn = at;
             }
 
-    pub hardens : (h : HardState) (go : M.Preview → Result M.Preview)
+    pub hardens : (h : HardState) (go : M.Preview → Result M.Preview ℕ)
         → Steps (harden_ran k.hard_state b.snapshot h p cs) (M.preview_hard_state i (hard_state_of h) v) go
         (M.previewed (M.batch_hard_state_rows i batch was (hard_state_of h) v) (M.preview_hard_state i (hard_state_of h) v) go)
     hardens h go =
@@ -181,13 +174,13 @@ module _ (i : Identity) (p : Preview) (cs : List ℕ) (v : M.Preview) (m : Means
 
         go : (o : Option ℕ) → first_of (term_rows b.hard_state k.hard_state p.head.snapshot_term (maximum_term p.head p.entries)) ≡ o
             → Prepares (ran (first_of (term_rows b.hard_state k.hard_state p.head.snapshot_term (maximum_term p.head p.entries))) p cs) v.records
-            (M.previewed (M.hard_state_before_log_term batch was v ∷ []) v ok)
-        go (some n) w = inl (record { number = n; refused = w; says = refused_by (M.hard_state_before_log_term batch was v ∷ []) v ok n (ap first_of rows ∙ w) })
-        go none w =
+            (M.previewed (M.hard_state_before_log_term batch was v ∷ []) v Ok)
+        go (Some n) w = inl (record { number = n; refused = w; says = refused_by (M.hard_state_before_log_term batch was v ∷ []) v Ok n (ap first_of rows ∙ w) })
+        go None w =
             inr (record {
               next = v;
               refused = w;
-              says = passed_by (M.hard_state_before_log_term batch was v ∷ []) v ok (ap first_of rows ∙ w);
+              says = passed_by (M.hard_state_before_log_term batch was v ∷ []) v Ok (ap first_of rows ∙ w);
               stands = record { means = m; lsn = at };
               records = refl;
             })
@@ -200,28 +193,28 @@ module _ (i : Identity) (b : RaftPersistenceBatch) (lent : List ℕ) (k : Header
   abbrev asking : M.Batch
   asking = batch_of b lent
 
-  abbrev kept : MaybeHardState
+  abbrev kept : Option HardState
   kept = k.hard_state
 
   abbrev terms : Preview → List ℕ → Ran
   terms = conclude_ran b.hard_state kept
 
   module _ (p : Preview) (cs : List ℕ) (v : M.Preview) (m : Means p.head p.entries cs v.log) (at : v.lsn ≡ p.lsn) where
-    hardened_none : M.hardened i asking before none v ≡ M.concluded i asking before v
+    hardened_none : M.hardened i asking before None v ≡ M.concluded i asking before v
     unfolding M.hardened
     hardened_none = refl
 
-    hardened_some : (h : HardState) → Steps (harden_ran kept b.snapshot h p cs) (M.preview_hard_state i (hard_state_of h) v) (M.concluded i asking before) (M.hardened i asking before (some (hard_state_of h)) v)
+    hardened_some : (h : HardState) → Steps (harden_ran kept b.snapshot h p cs) (M.preview_hard_state i (hard_state_of h) v) (M.concluded i asking before) (M.hardened i asking before (Some (hard_state_of h)) v)
     unfolding M.hardened
     hardened_some h = hardens i p cs v m at b lent k ks kcs h (M.concluded i asking before)
 
-    lastly_of : (hs : MaybeHardState) → Prepares (followed (harden_in kept b.snapshot hs p cs) terms) (v.records ++ hard_state_records i (maybe_hard_state_of hs)) (M.hardened i asking before (maybe_hard_state_of hs) v)
-    lastly_of H.None =
-        subst (λ (l : M.Prepared). Prepares (terms p cs) l (M.hardened i asking before none v)) (sym (append-nil v.records))
-        (carry (terms p cs) v.records (M.hardened i asking before none v) (M.concluded i asking before v) hardened_none (concludes i p cs v m at b lent k ks kcs))
-    lastly_of (H.Some h) =
-        follow_step (harden_ran kept b.snapshot h p cs) (M.preview_hard_state i (hard_state_of h) v) (M.concluded i asking before) (M.hardened i asking before (some (hard_state_of h)) v) terms
-        (v.records ++ hard_state_records i (some (hard_state_of h))) (hardened_some h)
+    lastly_of : (hs : Option HardState) → Prepares (followed (harden_in kept b.snapshot hs p cs) terms) (v.records ++ hard_state_records i (maybe_hard_state_of hs)) (M.hardened i asking before (maybe_hard_state_of hs) v)
+    lastly_of None =
+        subst (λ (l : M.Prepared). Prepares (terms p cs) l (M.hardened i asking before None v)) (sym (append-nil v.records))
+        (carry (terms p cs) v.records (M.hardened i asking before None v) (M.concluded i asking before v) hardened_none (concludes i p cs v m at b lent k ks kcs))
+    lastly_of (Some h) =
+        follow_step (harden_ran kept b.snapshot h p cs) (M.preview_hard_state i (hard_state_of h) v) (M.concluded i asking before) (M.hardened i asking before (Some (hard_state_of h)) v) terms
+        (v.records ++ hard_state_records i (Some (hard_state_of h))) (hardened_some h)
         (λ y. concludes i (harden_ran kept b.snapshot h p cs).preview (harden_ran kept b.snapshot h p cs).bytes (M.preview_hard_state i (hard_state_of h) v) y.means y.lsn b lent k ks kcs)
 
     pub lastly : Prepares (lastly_ran b.snapshot b.hard_state kept p cs) (v.records ++ hard_state_records i asking.hard_state) (M.hardened i asking before asking.hard_state v)
@@ -278,25 +271,25 @@ module _ (d : RaftReplicaIdentity) (b : RaftPersistenceBatch) (lent : List ℕ) 
   m₀ : Means h hs cs base
   m₀ = record { view = refl; fits = f; places = le; bytes = lc }
 
-  pointed_none : M.pointed own asked base none v₀ ≡ M.extended own asked base asked.entries v₀
+  pointed_none : M.pointed own asked base None v₀ ≡ M.extended own asked base asked.entries v₀
   unfolding M.pointed
   pointed_none = refl
 
   pointed_some : (r : RaftSnapshotPointerRecord)
-      → Steps (point_ran own p₀ r cs) (M.preview_pointer (pointer_record_of r) v₀) (M.extended own asked base asked.entries) (M.pointed own asked base (some (pointer_record_of r)) v₀)
+      → Steps (point_ran own p₀ r cs) (M.preview_pointer (pointer_record_of r) v₀) (M.extended own asked base asked.entries) (M.pointed own asked base (Some (pointer_record_of r)) v₀)
   unfolding M.pointed
   pointed_some r = points own p₀ cs v₀ m₀ refl r asked (M.extended own asked base asked.entries)
 
-  abbrev records_with : MaybePointer → M.Prepared
+  abbrev records_with : Option RaftSnapshotPointerRecord → M.Prepared
   records_with s = (pointer_records (maybe_pointer_of s) ++ records_of own asked.entries) ++ hard_state_records own asked.hard_state
 
-  pointed_of : (s : MaybePointer) → Prepares (followed (point_in own p₀ s cs) follow) (records_with s) (M.pointed own asked base (maybe_pointer_of s) v₀)
-  pointed_of S.None =
-      carry (follow p₀ cs) (records_with S.None) (M.pointed own asked base none v₀) (M.extended own asked base asked.entries v₀) pointed_none
+  pointed_of : (s : Option RaftSnapshotPointerRecord) → Prepares (followed (point_in own p₀ s cs) follow) (records_with s) (M.pointed own asked base (maybe_pointer_of s) v₀)
+  pointed_of None =
+      carry (follow p₀ cs) (records_with None) (M.pointed own asked base None v₀) (M.extended own asked base asked.entries v₀) pointed_none
       (entries_prepare own b lent h hs cs d small p₀ cs v₀ m₀ refl)
-  pointed_of (S.Some r) =
-      follow_step (point_ran own p₀ r cs) (M.preview_pointer (pointer_record_of r) v₀) (M.extended own asked base asked.entries) (M.pointed own asked base (some (pointer_record_of r)) v₀) follow
-      (records_with (S.Some r)) (pointed_some r)
+  pointed_of (Some r) =
+      follow_step (point_ran own p₀ r cs) (M.preview_pointer (pointer_record_of r) v₀) (M.extended own asked base asked.entries) (M.pointed own asked base (Some (pointer_record_of r)) v₀) follow
+      (records_with (Some r)) (pointed_some r)
       (λ y. entries_prepare own b lent h hs cs d small (point_ran own p₀ r cs).preview (point_ran own p₀ r cs).bytes (M.preview_pointer (pointer_record_of r) v₀) y.means y.lsn)
 
   pointed_prepare : Prepares (pointed_ran d b h.hard_state lent p₀ cs) (batch_records own asked) (M.pointed own asked base asked.snapshot v₀)
@@ -315,12 +308,12 @@ module _ (d : RaftReplicaIdentity) (b : RaftPersistenceBatch) (lent : List ℕ) 
     where
       go : (o : Option ℕ) → first_of (M.batch_rows own asked base) ≡ o
           → Prepares (formed_by o p₀ cs (pointed_ran d b h.hard_state lent p₀ cs)) (batch_records own asked) (M.prepare_on own asked base)
-      go (some n) w =
+      go (Some n) w =
           inl (record {
             number = n;
             refused = refl;
             says = prepare_is ∙ refused_by (M.batch_rows own asked base) v₀ (M.pointed own asked base asked.snapshot) n w;
           })
-      go none w =
+      go None w =
           carry (pointed_ran d b h.hard_state lent p₀ cs) (batch_records own asked) (M.prepare_on own asked base) (M.pointed own asked base asked.snapshot v₀)
           (prepare_is ∙ passed_by (M.batch_rows own asked base) v₀ (M.pointed own asked base asked.snapshot) w) pointed_prepare

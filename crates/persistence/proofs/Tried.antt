@@ -1,14 +1,14 @@
 -- A batch tried on what is kept of its replica is the definition's preparation.
 -- Assumes nothing.
+use Rattle.std.specs.Prelude.{Option, None, Some, Err}
 use mathlib.Core.Path.{◌≡◌, refl, sym, ap, subst, ◌∙◌}
 use mathlib.Core.Bool.{true, false}
 use mathlib.Core.List.{List}
-use mathlib.Core.Option.{Option, none, some}
 use Prim.Native.Nat.{ℕ, ◌+◌, ◌-◌, ◌*◌, ◌≤◌}
 use native.Mathlib.Omega.{arith}
 use borrow.Author.Tests.{ltb-false}
 use lib.ListN.{length, get_or, take, drop, replicate}
-use Rattle.definition.specs.Table.{Row, refusal, first_of, u64_max}
+use Rattle.definition.specs.Table.{Row, first_of, u64_max}
 use Rattle.definition.specs.Records.{Identity}
 use Rattle.definition.specs.Log as D
 use Rattle.definition.specs.Recovery.{Recovery, replica_of, sound}
@@ -79,7 +79,7 @@ module _ {s : RecoveredRaftStorage} {st : List ℕ} {i : RaftReplicaIdentity} {o
 
 -- A batch that is not refused has at most 32 entries.
 module _ (s : RecoveredRaftStorage) (st : List ℕ) (d : RaftReplicaIdentity) (b : RaftPersistenceBatch) (lent : List ℕ) (o : Own) where
-  pub tried_few : (tried_on s st d b lent o).refused ≡ none → b.entries.count ≤ 32
+  pub tried_few : (tried_on s st d b lent o).refused ≡ None → b.entries.count ≤ 32
   unfolding tried_on prepare_ran M.batch_rows
   tried_few = go (first_of rows) refl
     where
@@ -92,9 +92,9 @@ module _ (s : RecoveredRaftStorage) (st : List ℕ) (d : RaftReplicaIdentity) (b
       rows : List Row
       rows = M.batch_rows (identity_of d) (batch_of b lent) was
 
-      go : (x : Option ℕ) → first_of rows ≡ x → (formed_by x p (block_of st o) (pointed_ran d b p.head.hard_state lent p (block_of st o))).refused ≡ none → b.entries.count ≤ 32
-      go (some n) e z = absurd (none_some (sym z))
-      go none e z = omega (arith, ltb-false 32 (length (entries_of b.entries lent)) (clear rows e).1.1.0, entries_count b.entries lent)
+      go : (x : Option ℕ) → first_of rows ≡ x → (formed_by x p (block_of st o) (pointed_ran d b p.head.hard_state lent p (block_of st o))).refused ≡ None → b.entries.count ≤ 32
+      go (Some n) e z = absurd (none_some (sym z))
+      go None e z = omega (arith, ltb-false 32 (length (entries_of b.entries lent)) (clear rows e).1.1.0, entries_count b.entries lent)
 
 -- The definition's preparation, where state and store are sound and where they are not.
 module _ (w : Recovery) (i : Identity) (b : M.Batch) where
@@ -102,6 +102,6 @@ module _ (w : Recovery) (i : Identity) (b : M.Batch) where
   unfolding M.prepare
   prepare_sound e = rw (M.prepare, ask_sound (replica_of i) w e)
 
-  pub prepare_unsound : sound w ≡ false → M.prepare w i b ≡ refusal 1
+  pub prepare_unsound : sound w ≡ false → M.prepare w i b ≡ Err 1
   unfolding M.prepare
   prepare_unsound e = rw (M.prepare, ask_unsound (replica_of i) w e)

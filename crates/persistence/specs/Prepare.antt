@@ -1,20 +1,14 @@
 -- The model of preparing a batch on a preview: the pointer, the entries, the hard state, and the terms of the whole.
 -- Assumes nothing.
-use Rattle.std.specs.Prelude.{ℕ, ◌+◌, List, get_or}
-use Rattle.std.proofs.Math.Option.{none}
+use Rattle.std.specs.Prelude.{ℕ, ◌+◌, List, get_or, Option, None, Some}
 use Rattle.definition.specs.Table.{first_of, or_zero}
 use Rattle.definition.specs.Records.{Identity}
 use Rattle.definition.specs.Batch.{batch_rows}
 use Rattle.ids.specs.declared.RaftReplicaIdentity.{RaftReplicaIdentity}
 use Rattle.ids.specs.Identity.{identity_of}
 use Rattle.codec.specs.declared.HardState.{HardState}
-use Rattle.codec.specs.declared.MaybeHardState.{MaybeHardState}
-use Rattle.codec.specs.declared.MaybeHardState.TheVariants as H
-use Rattle.codec.specs.declared.MaybePointer.{MaybePointer}
-use Rattle.codec.specs.declared.MaybePointer.TheVariants as S
 use Rattle.codec.specs.declared.RaftSnapshotPointerRecord.{RaftSnapshotPointerRecord}
 use Rattle.view.specs.declared.Header.{Header}
-use Rattle.view.specs.declared.MaybeTerm.{MaybeTerm}
 use Rattle.view.specs.declared.RecoveredRaftLogEntry.{RecoveredRaftLogEntry}
 use Rattle.view.specs.Meaning.{no_entry, lsn_of, view_of}
 use Rattle.view.specs.Model.{with_hard, with_pointer, covered_by, maximum_term, dropped_entries, dropped_bytes}
@@ -27,7 +21,7 @@ use Rattle.batches.specs.Meaning.{batch_of}
 use Rattle.preview.specs.Preview.{Ran, ran, formed_by, onward, extend_from}
 
 -- The term of the entry that a preview holds at an index.
-abbrev pub held_at : Preview → ℕ → MaybeTerm
+abbrev pub held_at : Preview → ℕ → Option ℕ
 held_at p x = held_term_in (place_of p.head x) (get_or p.entries (look_of p.head x) no_entry).term
 
 -- The first k entries of a preview gone.
@@ -37,7 +31,7 @@ moved_down p k = record { head = p.head; entries = dropped_entries p.entries k p
 -- A pointer that drops k entries: it takes the next LSN.
 abbrev pub pointed_with : Preview → RaftSnapshotPointerRecord → ℕ → List ℕ → Ran
 pointed_with p r k cs =
-    ran none (record { head = with_pointer p.head r (record { 0 = p.lsn + 1 }) k; entries = dropped_entries p.entries k p.head.len; lsn = p.lsn + 1 })
+    ran None (record { head = with_pointer p.head r (record { 0 = p.lsn + 1 }) k; entries = dropped_entries p.entries k p.head.len; lsn = p.lsn + 1 })
     (dropped_bytes cs k)
 
 -- The pointer of a batch: refused, or the entries that it covers go.
@@ -48,39 +42,39 @@ point_ran i p r cs =
 
 -- A preview with another hard state, its LSN untouched.
 abbrev pub hard_header : Header → HardState → Header
-hard_header h x = with_hard h (H.Some x)
+hard_header h x = with_hard h (Some x)
 
 abbrev pub hardened_with : Preview → HardState → Preview
 hardened_with p h = record { head = hard_header p.head h; entries = p.entries; lsn = p.lsn }
 
 -- The hard state of a batch: refused, or it is the preview's.
-unfoldable pub harden_ran : MaybeHardState → MaybePointer → HardState → Preview → List ℕ → Ran
-harden_ran kept snapshot h p cs = formed_by (first_of (hard_state_rows kept snapshot (last_of p.head) h)) p cs (ran none (hardened_with p h) cs)
+unfoldable pub harden_ran : Option HardState → Option RaftSnapshotPointerRecord → HardState → Preview → List ℕ → Ran
+harden_ran kept snapshot h p cs = formed_by (first_of (hard_state_rows kept snapshot (last_of p.head) h)) p cs (ran None (hardened_with p h) cs)
 
 -- The terms of the whole.
-unfoldable pub conclude_ran : MaybeHardState → MaybeHardState → Preview → List ℕ → Ran
+unfoldable pub conclude_ran : Option HardState → Option HardState → Preview → List ℕ → Ran
 conclude_ran batch kept p cs = ran (first_of (term_rows batch kept p.head.snapshot_term (maximum_term p.head p.entries))) p cs
 
 -- Both, where the batch may have none.
-abbrev pub point_in : Identity → Preview → MaybePointer → List ℕ → Ran
-point_in i p S.None cs = ran none p cs
-point_in i p (S.Some r) cs = point_ran i p r cs
+abbrev pub point_in : Identity → Preview → Option RaftSnapshotPointerRecord → List ℕ → Ran
+point_in i p None cs = ran None p cs
+point_in i p (Some r) cs = point_ran i p r cs
 
-abbrev pub harden_in : MaybeHardState → MaybePointer → MaybeHardState → Preview → List ℕ → Ran
-harden_in kept snapshot H.None p cs = ran none p cs
-harden_in kept snapshot (H.Some h) p cs = harden_ran kept snapshot h p cs
+abbrev pub harden_in : Option HardState → Option RaftSnapshotPointerRecord → Option HardState → Preview → List ℕ → Ran
+harden_in kept snapshot None p cs = ran None p cs
+harden_in kept snapshot (Some h) p cs = harden_ran kept snapshot h p cs
 
 -- A refusal ends it, else the rest follows on what is left.
 abbrev pub followed : Ran → (Preview → List ℕ → Ran) → Ran
 followed x rest = onward x.refused x (rest x.preview x.bytes)
 
-unfoldable pub lastly_ran : MaybePointer → MaybeHardState → MaybeHardState → Preview → List ℕ → Ran
+unfoldable pub lastly_ran : Option RaftSnapshotPointerRecord → Option HardState → Option HardState → Preview → List ℕ → Ran
 lastly_ran snapshot hard kept p cs = followed (harden_in kept snapshot hard p cs) (conclude_ran hard kept)
 
-unfoldable pub entries_ran : RaftReplicaIdentity → RaftPersistenceBatch → MaybeHardState → List ℕ → Preview → List ℕ → Ran
+unfoldable pub entries_ran : RaftReplicaIdentity → RaftPersistenceBatch → Option HardState → List ℕ → Preview → List ℕ → Ran
 entries_ran d b kept lent p cs = followed (extend_from b.entries.count 0 d b.entries lent p cs) (lastly_ran b.snapshot b.hard_state kept)
 
-unfoldable pub pointed_ran : RaftReplicaIdentity → RaftPersistenceBatch → MaybeHardState → List ℕ → Preview → List ℕ → Ran
+unfoldable pub pointed_ran : RaftReplicaIdentity → RaftPersistenceBatch → Option HardState → List ℕ → Preview → List ℕ → Ran
 pointed_ran d b kept lent p cs = followed (point_in (identity_of d) p b.snapshot cs) (entries_ran d b kept lent)
 
 -- The preview begins at the last replayed LSN (none is zero).

@@ -9,11 +9,11 @@ ghost use Rattle.persistence.specs.Answer.{pointer_record, pointer_count, hard_s
 
 use batches::{BatchEntries, RaftPersistenceBatch, batch};
 use codec::{
-    MaybeHardState, MaybePointer, RAFT_STABLE_STATE_RECORD_VERSION, RaftHardStateRecord,
-    RaftWalRecord, RecordBody,
+    HardState, RAFT_STABLE_STATE_RECORD_VERSION, RaftHardStateRecord, RaftSnapshotPointerRecord,
+    RaftWalRecord,
 };
 use ids::{RaftReplicaIdentity, Refusal};
-use preview::{Extended, Prepared};
+use preview::Extended;
 use readers::Own;
 use storage::RecoveredRaftStorage;
 use view::RecoveredRaftLogEntry;
@@ -21,15 +21,15 @@ use view::RecoveredRaftLogEntry;
 pub mod prepare;
 
 // A record of the answer; one of no Raft kind is the blank record.
-#[derive(Clone, Copy)]
+#[derive(Clone, Copy, Debug, PartialEq, Eq)]
 pub struct PreparedRecord {
-    pub body: RecordBody,
+    pub body: Option<RaftWalRecord>,
 }
 
 // Whether the batch may be written, and its records in order: pointer, entries, hard state. Places past the count are blank.
-#[derive(Clone, Copy)]
+#[derive(Clone, Copy, Debug, PartialEq, Eq)]
 pub struct PreparedBatch {
-    pub answer: Prepared,
+    pub answer: Result<(), Refusal>,
     pub count: usize,
     pub records: [PreparedRecord; 34],
 }
@@ -39,14 +39,8 @@ fn entries_at(state: RecoveredRaftStorage, p: usize) -> [RecoveredRaftLogEntry; 
     requires { p < 8 }
     ensures { result ≡ entries_in state p }
 {
-    let first = state.entries[64 * p];
-    let mut es = [first; 64];
-    let mut q: usize = 0;
-    while q < 64 {
-        let e = state.entries[64 * p + q];
-        es[q] = e;
-        q = q + 1;
-    }
+    let mut es = [state.entries[0]; 64];
+    es.copy_from_slice(&state.entries[64 * p..64 * p + 64]);
     es
 }
 
@@ -62,63 +56,52 @@ pub fn try_batch(
     requires { Kept state store.now own }
     ensures { ran_of result (tried_on state store.now identity batch lent.now own).bytes ≡ tried_on state store.now identity batch lent.now own }
 {
-    let head = own.head;
     let entries = entries_at(state, own.place);
     let at = 4096 * own.place;
-    let end = at + 64 * head.len;
     let mut block = [0u8; 4096];
-    store::copy_in(&mut block, 0, &store[at..end]);
-    prepare::prepare_on(head, entries, identity, batch, &mut block, lent)
+    store::copy_in(&mut block, 0, &store[at..at + 64 * own.head.len]);
+    prepare::prepare_on(own.head, entries, identity, batch, &mut block, lent)
 }
 
 // The pointer's record, blank where there is none.
-fn pointer_record(snapshot: MaybePointer) -> PreparedRecord
+fn pointer_record(snapshot: Option<RaftSnapshotPointerRecord>) -> PreparedRecord
     ensures { result ≡ pointer_record snapshot }
 {
-    let MaybePointer::Some(p) = snapshot else {
-        return PreparedRecord {
-            body: RecordBody::Foreign,
-        };
-    };
     PreparedRecord {
-        body: RecordBody::Raft(RaftWalRecord::SnapshotPointer(p)),
+        body: snapshot.map(|p| RaftWalRecord::SnapshotPointer(p)),
     }
 }
 
-fn pointer_count(snapshot: MaybePointer) -> usize
+fn pointer_count(snapshot: Option<RaftSnapshotPointerRecord>) -> usize
     ensures { result ≡ pointer_count snapshot }
 {
     match snapshot {
-        MaybePointer::None => 0,
-        MaybePointer::Some(_) => 1,
+        None => 0,
+        Some(_) => 1,
     }
 }
 
 // The hard state's record, blank where there is none.
-fn hard_state_record(identity: RaftReplicaIdentity, hard_state: MaybeHardState) -> PreparedRecord
+fn hard_state_record(identity: RaftReplicaIdentity, hard_state: Option<HardState>) -> PreparedRecord
     ensures { result ≡ hard_state_record identity hard_state }
 {
-    let MaybeHardState::Some(h) = hard_state else {
-        return PreparedRecord {
-            body: RecordBody::Foreign,
-        };
-    };
-    let r = RaftHardStateRecord {
-        format_version: RAFT_STABLE_STATE_RECORD_VERSION,
-        identity: identity,
-        hard_state: h,
-    };
     PreparedRecord {
-        body: RecordBody::Raft(RaftWalRecord::HardState(r)),
+        body: hard_state.map(|h| {
+            RaftWalRecord::HardState(RaftHardStateRecord {
+                format_version: RAFT_STABLE_STATE_RECORD_VERSION,
+                identity,
+                hard_state: h,
+            })
+        }),
     }
 }
 
-fn hard_state_count(hard_state: MaybeHardState) -> usize
+fn hard_state_count(hard_state: Option<HardState>) -> usize
     ensures { result ≡ hard_state_count hard_state }
 {
     match hard_state {
-        MaybeHardState::None => 0,
-        MaybeHardState::Some(_) => 1,
+        None => 0,
+        Some(_) => 1,
     }
 }
 
@@ -133,14 +116,10 @@ fn put_entries(
     ensures { result ≡ entries_from blank base entries.count entries identity }
 {
     let mut records = blank;
-    let mut i: usize = 0;
-    while i < entries.count {
-        let e = batch::record_at(entries, i, identity);
-        let r = PreparedRecord {
-            body: RecordBody::Raft(RaftWalRecord::Entry(e)),
+    for i in 0..entries.count {
+        records[base + i] = PreparedRecord {
+            body: Some(RaftWalRecord::Entry(batch::record_at(entries, i, identity))),
         };
-        records[base + i] = r;
-        i = i + 1;
     }
     records
 }
@@ -150,24 +129,16 @@ fn records_of(identity: RaftReplicaIdentity, batch: RaftPersistenceBatch) -> Pre
     requires { batch.entries.count ≤ 32 }
     ensures { result ≡ prepared_with (records_in identity batch) }
 {
-    let snapshot = batch.snapshot;
-    let hard_state = batch.hard_state;
-    let entries = batch.entries;
-    let base = pointer_count(snapshot);
-    let end = base + entries.count;
-    let blank = PreparedRecord {
-        body: RecordBody::Foreign,
-    };
-    let mut first = [blank; 34];
-    let pointer = pointer_record(snapshot);
-    first[0] = pointer;
-    let mut records = put_entries(first, base, entries, identity);
-    let last = hard_state_record(identity, hard_state);
-    records[end] = last;
+    let base = pointer_count(batch.snapshot);
+    let end = base + batch.entries.count;
+    let mut first = [PreparedRecord { body: None }; 34];
+    first[0] = pointer_record(batch.snapshot);
+    let mut records = put_entries(first, base, batch.entries, identity);
+    records[end] = hard_state_record(identity, batch.hard_state);
     PreparedBatch {
-        answer: Prepared::Ready,
-        count: end + hard_state_count(hard_state),
-        records: records,
+        answer: Ok(()),
+        count: end + hard_state_count(batch.hard_state),
+        records,
     }
 }
 
@@ -175,13 +146,10 @@ fn records_of(identity: RaftReplicaIdentity, batch: RaftPersistenceBatch) -> Pre
 fn refused(why: Refusal) -> PreparedBatch
     ensures { result ≡ refused_with why }
 {
-    let blank = PreparedRecord {
-        body: RecordBody::Foreign,
-    };
     PreparedBatch {
-        answer: Prepared::Refused(why),
+        answer: Err(why),
         count: 0,
-        records: [blank; 34],
+        records: [PreparedRecord { body: None }; 34],
     }
 }
 
@@ -201,8 +169,7 @@ pub fn prepare_batch(
     }
     let own = readers::own_of(state, identity);
     let tried = try_batch(state, store, own, identity, batch, lent);
-    let answer = tried.answer;
-    if let Prepared::Refused(why) = answer {
+    if let Err(why) = tried.answer {
         return refused(why);
     }
     records_of(identity, batch)

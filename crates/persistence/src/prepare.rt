@@ -1,4 +1,5 @@
 // Preparing a batch on one replica: its pointer, its entries, its hard state, and the terms of the whole.
+ghost use Rattle.ids.specs.Refusal.{checked_of};
 ghost use Rattle.std.specs.Prelude.{◌≡◌, List, ℕ, ◌≤◌};
 ghost use Rattle.definition.specs.Table.{first_of, or_zero};
 ghost use Rattle.ids.specs.Identity.{identity_of};
@@ -7,23 +8,21 @@ ghost use Rattle.view.specs.Model.{maximum_term};
 ghost use Rattle.view.specs.Readers.{place_of};
 ghost use Rattle.replay.specs.Plan.{held_term_in};
 ghost use Rattle.batches.specs.Checks.{term_rows};
-ghost use Rattle.preview.specs.Preview.{prepared_of, ran_of, Sits};
+ghost use Rattle.preview.specs.Preview.{ran_of, Sits};
 ghost use Rattle.persistence.specs.Prepare.{held_at, moved_down, point_ran, hard_header, harden_ran, point_in, harden_in, lastly_ran, entries_ran, pointed_ran, beginning, prepare_ran};
 
 use batches::{RaftPersistenceBatch, batch, hard_state, pointer};
-use codec::{HardState, MaybeHardState, MaybePointer, RaftSnapshotPointerRecord};
-use ids::{Checked, Lsn, RaftReplicaIdentity};
-use preview::{Extended, Prepared, Preview};
-use view::{Header, MaybeLsn, MaybeTerm, Place, RecoveredRaftLogEntry};
+use codec::{HardState, RaftSnapshotPointerRecord};
+use ids::{Lsn, RaftReplicaIdentity, Refusal};
+use preview::{Extended, Preview};
+use view::{Header, RecoveredRaftLogEntry};
 
 // The term that a preview holds at an index.
-fn held_at(preview: Preview, index: u64) -> MaybeTerm
+fn held_at(preview: Preview, index: u64) -> Option<u64>
     ensures { result ≡ held_at preview index }
 {
-    let head = preview.head;
-    let q = replay::look(head, index);
-    let e = preview.entries[q];
-    replay::held_term(head, e, index)
+    let e = preview.entries[replay::look(preview.head, index)];
+    replay::held_term(preview.head, e, index)
 }
 
 // The first k entries go, and the others move down.
@@ -31,14 +30,9 @@ fn move_entries(preview: Preview, k: usize) -> Preview
     requires { (k ≤ preview.head.len) × (preview.head.len ≤ 64) }
     ensures { result ≡ moved_down preview k }
 {
-    let head = preview.head;
-    let n = head.len - k;
     let mut t = preview;
-    let mut j: usize = 0;
-    while j < n {
-        let moved = t.entries[k + j];
-        t.entries[j] = moved;
-        j = j + 1;
+    for j in 0..preview.head.len - k {
+        t.entries[j] = t.entries[k + j];
     }
     t
 }
@@ -55,22 +49,20 @@ pub fn point(
 {
     let head = preview.head;
     let held = held_at(preview, p.last_included_index);
-    if let Checked::Refused(why) = pointer::check_pointer(identity, head, preview.lsn, held, p) {
+    if let Err(why) = pointer::check_pointer(identity, head, preview.lsn, held, p) {
         return Extended {
-            answer: Prepared::Refused(why),
-            preview: preview,
+            answer: Err(why),
+            preview,
         };
     }
     let lsn = preview.lsn + 1;
-    let at = Lsn(lsn);
     let k = head.covered_by(p.last_included_index);
     store::drop_cells(block, 0, k);
-    let next = head.with_pointer(p, at, k);
     let mut t = move_entries(preview, k);
-    t.head = next;
+    t.head = head.with_pointer(p, Lsn(lsn), k);
     t.lsn = lsn;
     Extended {
-        answer: Prepared::Ready,
+        answer: Ok(()),
         preview: t,
     }
 }
@@ -78,81 +70,54 @@ pub fn point(
 // The hard state of a batch: 33 to 36 look at the one kept before the batch. No LSN is counted for it.
 pub fn harden(
     preview: Preview,
-    kept: MaybeHardState,
-    snapshot: MaybePointer,
+    kept: Option<HardState>,
+    snapshot: Option<RaftSnapshotPointerRecord>,
     h: HardState,
 ) -> Extended
     ensures { (cs : List ℕ) → ran_of result cs ≡ harden_ran kept snapshot h preview cs }
 {
     let head = preview.head;
     let last = head.last();
-    if let Checked::Refused(why) = hard_state::check_hard_state(kept, snapshot, last, h) {
+    if let Err(why) = hard_state::check_hard_state(kept, snapshot, last, h) {
         return Extended {
-            answer: Prepared::Refused(why),
-            preview: preview,
+            answer: Err(why),
+            preview,
         };
     }
-    let hard_state = MaybeHardState::Some(h);
-    let lsn = head.hard_state_lsn;
-    let next = head.with_hard_at(hard_state, lsn);
     let mut t = preview;
-    t.head = next;
+    t.head = head.with_hard_at(Some(h), head.hard_state_lsn);
     Extended {
-        answer: Prepared::Ready,
+        answer: Ok(()),
         preview: t,
     }
 }
 
-// The largest of the boundary's term and the terms of the entries.
-fn largest_term(preview: Preview) -> u64
-    ensures { result ≡ maximum_term preview.head preview.entries }
-{
-    let head = preview.head;
-    let n = head.len;
-    let mut m = head.snapshot_term;
-    let mut q: usize = 0;
-    while q < n {
-        if 64 <= q {
-            return m;
-        }
-        let e = preview.entries[q];
-        m = view::larger(m, e.term);
-        q = q + 1;
-    }
-    m
-}
-
 // The terms of the whole (50).
-pub fn conclude(preview: Preview, hard_state: MaybeHardState, kept: MaybeHardState) -> Prepared
-    ensures { prepared_of result ≡ first_of (term_rows hard_state kept preview.head.snapshot_term (maximum_term preview.head preview.entries)) }
+pub fn conclude(
+    preview: Preview,
+    hard_state: Option<HardState>,
+    kept: Option<HardState>,
+) -> Result<(), Refusal>
+    ensures { checked_of result ≡ first_of (term_rows hard_state kept preview.head.snapshot_term (maximum_term preview.head preview.entries)) }
 {
-    let head = preview.head;
-    let largest = largest_term(preview);
-    if let Checked::Refused(why) = hard_state::check_terms(
-        hard_state,
-        kept,
-        head.snapshot_term,
-        largest,
-    ) {
-        return Prepared::Refused(why);
-    }
-    Prepared::Ready
+    let largest = preview.head.maximum_term(&preview.entries);
+    hard_state::check_terms(hard_state, kept, preview.head.snapshot_term, largest)
 }
 
 // The pointer of a batch, if it has one.
 fn point_batch(
     preview: Preview,
     identity: RaftReplicaIdentity,
-    snapshot: MaybePointer,
+    snapshot: Option<RaftSnapshotPointerRecord>,
     block: &mut [u8],
 ) -> Extended
     requires { Sits preview block.old }
     ensures { ran_of result block.new ≡ point_in (identity_of identity) preview snapshot block.old }
 {
-    let MaybePointer::Some(p) = snapshot else {
+    let Some(p) = snapshot else {
         return Extended {
-            answer: Prepared::Ready,
-            preview: preview,
+            answer: Ok(()),
+            preview,
         };
     };
     point(preview, identity, p, block)
@@ -161,16 +126,16 @@ fn point_batch(
 // The hard state of a batch, if it has one.
 fn harden_batch(
     preview: Preview,
-    kept: MaybeHardState,
-    snapshot: MaybePointer,
-    hard_state: MaybeHardState,
+    kept: Option<HardState>,
+    snapshot: Option<RaftSnapshotPointerRecord>,
+    hard_state: Option<HardState>,
 ) -> Extended
     ensures { (cs : List ℕ) → ran_of result cs ≡ harden_in kept snapshot hard_state preview cs }
 {
-    let MaybeHardState::Some(h) = hard_state else {
+    let Some(h) = hard_state else {
         return Extended {
-            answer: Prepared::Ready,
-            preview: preview,
+            answer: Ok(()),
+            preview,
         };
     };
     harden(preview, kept, snapshot, h)
@@ -179,25 +144,19 @@ fn harden_batch(
 // The hard state, then the terms.
 fn lastly(
     preview: Preview,
-    snapshot: MaybePointer,
-    hard_state: MaybeHardState,
-    kept: MaybeHardState,
+    snapshot: Option<RaftSnapshotPointerRecord>,
+    hard_state: Option<HardState>,
+    kept: Option<HardState>,
 ) -> Extended
     ensures { (cs : List ℕ) → ran_of result cs ≡ lastly_ran snapshot hard_state kept preview cs }
 {
     let hardened = harden_batch(preview, kept, snapshot, hard_state);
-    let answer = hardened.answer;
-    let next = hardened.preview;
-    if let Prepared::Refused(why) = answer {
-        return Extended {
-            answer: Prepared::Refused(why),
-            preview: next,
-        };
+    if let Err(_) = hardened.answer {
+        return hardened;
     }
-    let concluded = conclude(next, hard_state, kept);
     Extended {
-        answer: concluded,
-        preview: next,
+        answer: conclude(hardened.preview, hard_state, kept),
+        preview: hardened.preview,
     }
 }
 
@@ -206,26 +165,18 @@ fn supply_batch(
     preview: Preview,
     identity: RaftReplicaIdentity,
     batch: RaftPersistenceBatch,
-    kept: MaybeHardState,
+    kept: Option<HardState>,
     block: &mut [u8],
     lent: &[u8],
 ) -> Extended
     requires { (Sits preview block.old) × (batch.entries.count ≤ 32) }
     ensures { ran_of result block.new ≡ entries_ran identity batch kept lent.now preview block.old }
 {
-    let entries = batch.entries;
-    let supplied = preview::extend(preview, identity, entries, block, lent);
-    let answer = supplied.answer;
-    let next = supplied.preview;
-    if let Prepared::Refused(why) = answer {
-        return Extended {
-            answer: Prepared::Refused(why),
-            preview: next,
-        };
+    let supplied = preview::extend(preview, identity, batch.entries, block, lent);
+    if let Err(_) = supplied.answer {
+        return supplied;
     }
-    let snapshot = batch.snapshot;
-    let hard_state = batch.hard_state;
-    lastly(next, snapshot, hard_state, kept)
+    lastly(supplied.preview, batch.snapshot, batch.hard_state, kept)
 }
 
 // The pointer, then all the rest.
@@ -233,34 +184,25 @@ fn apply_batch(
     preview: Preview,
     identity: RaftReplicaIdentity,
     batch: RaftPersistenceBatch,
-    kept: MaybeHardState,
+    kept: Option<HardState>,
     block: &mut [u8],
     lent: &[u8],
 ) -> Extended
     requires { (Sits preview block.old) × (batch.entries.count ≤ 32) }
     ensures { ran_of result block.new ≡ pointed_ran identity batch kept lent.now preview block.old }
 {
-    let snapshot = batch.snapshot;
-    let pointed = point_batch(preview, identity, snapshot, block);
-    let answer = pointed.answer;
-    let next = pointed.preview;
-    if let Prepared::Refused(why) = answer {
-        return Extended {
-            answer: Prepared::Refused(why),
-            preview: next,
-        };
+    let pointed = point_batch(preview, identity, batch.snapshot, block);
+    if let Err(_) = pointed.answer {
+        return pointed;
     }
-    supply_batch(next, identity, batch, kept, block, lent)
+    supply_batch(pointed.preview, identity, batch, kept, block, lent)
 }
 
 // An LSN as a number, none is 0.
-fn number_of(lsn: MaybeLsn) -> u64
+fn number_of(lsn: Option<Lsn>) -> u64
     ensures { result ≡ or_zero (λ t. t) (lsn_of lsn) }
 {
-    match lsn {
-        MaybeLsn::None => 0,
-        MaybeLsn::Some(l) => l.0,
-    }
+    lsn.map_or(0, |lsn| lsn.0)
 }
 
 // A batch on what is kept of its replica: the batch as a whole, then on a preview that begins at the last replayed LSN its pointer,
@@ -276,19 +218,16 @@ pub fn prepare_on(
     requires { Sits (beginning head entries) block.old }
     ensures { ran_of result block.new ≡ prepare_ran identity batch lent.now (beginning head entries) block.old }
 {
-    let last = head.last_replayed_lsn;
-    let lsn = number_of(last);
     let preview = Preview {
-        head: head,
-        entries: entries,
-        lsn: lsn,
+        head,
+        entries,
+        lsn: number_of(head.last_replayed_lsn),
     };
-    if let Checked::Refused(why) = batch::check_batch(identity, batch) {
+    if let Err(why) = batch::check_batch(identity, batch) {
         return Extended {
-            answer: Prepared::Refused(why),
-            preview: preview,
+            answer: Err(why),
+            preview,
         };
     }
-    let kept = head.hard_state;
-    apply_batch(preview, identity, batch, kept, block, lent)
+    apply_batch(preview, identity, batch, head.hard_state, block, lent)
 }

@@ -1,15 +1,15 @@
 -- The entries of a batch on a preview are the definition's: refused by the number that ends it, or what follows them is asked on the
 -- preview that they leave.
 -- Assumes nothing.
+use Rattle.std.specs.Prelude.{Option, None, Some, Result, Err}
 use mathlib.Core.Path.{◌≡◌, refl, sym, ap, subst, ◌∙◌}
 use mathlib.Core.Logic.{inl, inr}
 use mathlib.Core.List.{List, [], ◌∷◌, append_assoc, append-nil}
-use mathlib.Core.Option.{Option, none, some}
 use Prim.Native.Nat.{ℕ, zero, suc, ◌+◌, ◌<◌, ◌≤◌}
 use native.Mathlib.Omega.{arith}
 use lib.ListN.{length, get_or, drop}
 use lib.Seq.{drop-length}
-use Rattle.definition.specs.Table.{Row, Result, refusal, first_of, u64_max}
+use Rattle.definition.specs.Table.{Row, first_of, u64_max}
 use Rattle.definition.specs.Records.{Identity, LogEntry, entry}
 use Rattle.definition.specs.Log as D
 use Rattle.definition.specs.Batch as M
@@ -25,10 +25,10 @@ use Rattle.batches.proofs.Entries.{record_means, entries_count, entries_from_lem
 use Rattle.preview.proofs.Supplied.{entry_next, entry_refuses}
 
 -- Refused by the first row, else what follows.
-pub refused_by : (rows : List Row) (v : M.Preview) (go : M.Preview → Result M.Preview) (n : ℕ) → first_of rows ≡ some n → M.previewed rows v go ≡ refusal n
+pub refused_by : (rows : List Row) (v : M.Preview) (go : M.Preview → Result M.Preview ℕ) (n : ℕ) → first_of rows ≡ Some n → M.previewed rows v go ≡ Err n
 refused_by rows v go n w = rw (w, M.previewed)
 
-pub passed_by : (rows : List Row) (v : M.Preview) (go : M.Preview → Result M.Preview) → first_of rows ≡ none → M.previewed rows v go ≡ go v
+pub passed_by : (rows : List Row) (v : M.Preview) (go : M.Preview → Result M.Preview ℕ) → first_of rows ≡ None → M.previewed rows v go ≡ go v
 passed_by rows v go w = rw (w, M.previewed)
 
 module _ (i : Identity) (batch : M.Batch) (was : D.Log ℕ) where
@@ -37,19 +37,19 @@ module _ (i : Identity) (batch : M.Batch) (was : D.Log ℕ) where
   unfolding M.extended
   extended_none v = refl
 
-  extended_refused : (e : M.BatchEntry) (l : List M.BatchEntry) (v : M.Preview) (n : ℕ) → first_of (M.batch_entry_rows i batch was e.log_entry v) ≡ some n
-      → M.extended i batch was (e ∷ l) v ≡ refusal n
+  extended_refused : (e : M.BatchEntry) (l : List M.BatchEntry) (v : M.Preview) (n : ℕ) → first_of (M.batch_entry_rows i batch was e.log_entry v) ≡ Some n
+      → M.extended i batch was (e ∷ l) v ≡ Err n
   unfolding M.extended
   extended_refused e l v n w = refused_by (M.batch_entry_rows i batch was e.log_entry v) (M.preview_entry i e.log_entry v) (M.extended i batch was l) n w
 
-  extended_next : (e : M.BatchEntry) (l : List M.BatchEntry) (v : M.Preview) → first_of (M.batch_entry_rows i batch was e.log_entry v) ≡ none
+  extended_next : (e : M.BatchEntry) (l : List M.BatchEntry) (v : M.Preview) → first_of (M.batch_entry_rows i batch was e.log_entry v) ≡ None
       → M.extended i batch was (e ∷ l) v ≡ M.extended i batch was l (M.preview_entry i e.log_entry v)
   unfolding M.extended
   extended_next e l v w = passed_by (M.batch_entry_rows i batch was e.log_entry v) (M.preview_entry i e.log_entry v) (M.extended i batch was l) w
 
   -- One entry more, before the rest.
   module _ (e : M.BatchEntry) (l : List M.BatchEntry) (v : M.Preview) (x : Ran) where
-    longer : first_of (M.batch_entry_rows i batch was e.log_entry v) ≡ none
+    longer : first_of (M.batch_entry_rows i batch was e.log_entry v) ≡ None
         → Extends x i batch was l (M.preview_entry i e.log_entry v) (M.extended i batch was l (M.preview_entry i e.log_entry v))
         → Extends x i batch was (e ∷ l) v (M.extended i batch was (e ∷ l) v)
     longer w (inl a) = inl (record { number = a.number; refused = a.refused; says = extended_next e l v w ∙ a.says })
@@ -93,8 +93,8 @@ module _ (i : Identity) (batch : M.Batch) (was : D.Log ℕ) where
 
       turn : (n : ℕ) → Rest n (suc k) → (o : Option ℕ) → x.refused ≡ o
           → Extends (onward o x (extend_from n (suc k) d es lent x.preview x.bytes)) i batch was (entry_at es lent k ∷ left (suc k)) v (M.extended i batch was (entry_at es lent k ∷ left (suc k)) v)
-      turn n go (some c) w = inl (record { number = c; refused = w; says = extended_refused (entry_at es lent k) (left (suc k)) v c (rows ∙ w) })
-      turn n go none w =
+      turn n go (Some c) w = inl (record { number = c; refused = w; says = extended_refused (entry_at es lent k) (left (suc k)) v c (rows ∙ w) })
+      turn n go None w =
           let y : Next p cs (log_entry_of (record_at es k d) lent) x = entry_next p cs sits (record_at es k d) lent (small k) w in
           longer (entry_at es lent k) (left (suc k)) v (extend_from n (suc k) d es lent x.preview x.bytes) (rows ∙ w)
           (go x.preview x.bytes (M.preview_entry i (log_entry_at es lent k) v)

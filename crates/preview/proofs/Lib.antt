@@ -1,4 +1,3 @@
 pub mod Supplied
 pub mod Extending
-pub mod Taken
 pub mod Running

@@ -1,36 +1,30 @@
 -- The loop over the entries of a batch: what is asked of the whole is what is asked of the rest.
 -- Assumes nothing.
+use Rattle.std.specs.Prelude.{Option, None, Some, Result, Ok, Err}
 use mathlib.Core.Path.{◌≡◌, refl, sym, ap, ◌∙◌}
 use mathlib.Core.Bool.{Bool, true, false, ◌&&◌}
 use mathlib.Core.List.{List}
-use mathlib.Core.Option.{Option, none, some}
 use Prim.Native.Nat.{ℕ, suc, ◌+◌, ◌-◌, ◌<◌, ◌≤◌}
 use native.Mathlib.Omega.{arith}
 use native.Mathlib.Numerals.{add-one}
 use borrow.Author.Tests.{eqb-true, eq-eqb, le-leb, lt-ltb}
 use lib.ListN.{length}
 use Rattle.definition.specs.Table.{◌=?◌, ◌≤?◌, first_of, u64_max}
-use Rattle.ids.specs.declared.Checked.{Checked}
-use Rattle.ids.specs.declared.Checked.TheVariants as C
 use Rattle.ids.specs.declared.RaftReplicaIdentity.{RaftReplicaIdentity}
 use Rattle.ids.specs.declared.Refusal.{Refusal}
 use Rattle.ids.specs.Refusal.{checked_of}
 use Rattle.codec.specs.declared.RaftLogEntryRecord.{RaftLogEntryRecord}
 use Rattle.codec.specs.Records.{log_entry_of}
 use Rattle.view.specs.declared.Header.{Header}
-use Rattle.view.specs.declared.Place.{Place}
-use Rattle.view.specs.declared.Place.TheVariants as Q
 use Rattle.view.specs.Meaning.{base_of}
 use Rattle.view.specs.Readers.{place_of}
 use Rattle.view.proofs.Readers.{Held, held_at_lem}
 use Rattle.batches.specs.declared.BatchEntries.{BatchEntries}
 use Rattle.preview.specs.declared.Extended.{Extended}
-use Rattle.preview.specs.declared.Prepared.{Prepared}
-use Rattle.preview.specs.declared.Prepared.TheVariants as P
 use Rattle.preview.specs.declared.Preview.{Preview}
 use Rattle.batches.specs.Checks.{entry_form_rows}
 use Rattle.batches.specs.Meaning.{record_at}
-use Rattle.preview.specs.Preview.{holds_at, within, spot_in, spot_of, prepared_of, Ran, ran_of, ran, taken_at, formed_by, entry_ran, onward, extend_from, Sits, Takes}
+use Rattle.preview.specs.Preview.{holds_at, within, spot_in, spot_of, Ran, ran_of, ran, taken_at, formed_by, entry_ran, onward, extend_from, Sits, Takes}
 use Rattle.preview.specs.Extends.{Next}
 use Rattle.preview.proofs.Supplied.{entry_next}
 
@@ -45,17 +39,17 @@ module _ (h : Header) (x q : ℕ) where
   spot_found short l e =
       let f : (base_of h ≤? x ≡ true) × (x - base_of h =? q ≡ true) = both_true (base_of h ≤? x) (x - base_of h =? q) e in
       let at : x - base_of h ≡ q = eqb-true (x - base_of h) q f.1 in
-      let p : place_of h x ≡ Q.Held (x - base_of h) = rw (f.0, lt-ltb (x - base_of h) h.len (omega arith)) in
+      let p : place_of h x ≡ Some (x - base_of h) = rw (f.0, lt-ltb (x - base_of h) h.len (omega arith)) in
       let a : within q ≡ q = rw (lt-ltb q 64 (omega arith)) in
-      a ∙ sym at ∙ sym (ap (λ (y : Place). spot_in y h.len) p)
+      a ∙ sym at ∙ sym (ap (λ (y : Option ℕ). spot_in y h.len) p)
 
   -- .. and where all of them do not, it is the one after the last.
   pub spot_missing : h.len ≤ q → q ≤ h.len → ((k : ℕ) → k < q → holds_at h k x ≡ false) → within q ≡ spot_of h x
   spot_missing m l all = go (place_of h x) refl
     where
-      go : (p : Place) → place_of h x ≡ p → within q ≡ spot_in p h.len
-      go Q.None e = let z : q ≡ h.len = omega arith in ap within z
-      go (Q.Held k) e =
+      go : (p : Option ℕ) → place_of h x ≡ p → within q ≡ spot_in p h.len
+      go None e = let z : q ≡ h.len = omega arith in ap within z
+      go (Some k) e =
           let y : Held h x k = held_at_lem h x k e in
           let b : base_of h + k ≡ x = y.index in
           let t : k < q = omega (arith, y.below) in
@@ -63,10 +57,10 @@ module _ (h : Header) (x q : ℕ) where
           absurd (let w : true ≡ false = sym u ∙ all k t in let z : ◌≡◌ {A = ℕ} 0 1 = cc in omega arith)
 
 -- A turn, by what an entry leaves.
-turn_ends : (x y : Ran) (rest : Ran → Ran) (k : ℕ) → x ≡ y → y.refused ≡ some k → onward x.refused x (rest x) ≡ y
+turn_ends : (x y : Ran) (rest : Ran → Ran) (k : ℕ) → x ≡ y → y.refused ≡ Some k → onward x.refused x (rest x) ≡ y
 turn_ends x y rest k e w = ap (λ (z : Ran). onward z.refused z (rest z)) e ∙ ap (λ (o : Option ℕ). onward o y (rest y)) w
 
-turn_goes : (x y : Ran) (rest : Ran → Ran) → x ≡ y → y.refused ≡ none → onward x.refused x (rest x) ≡ rest y
+turn_goes : (x y : Ran) (rest : Ran → Ran) → x ≡ y → y.refused ≡ None → onward x.refused x (rest x) ≡ rest y
 turn_goes x y rest e w = ap (λ (z : Ran). onward z.refused z (rest z)) e ∙ ap (λ (o : Option ℕ). onward o y (rest y)) w
 
 module _ (n : ℕ) (d : RaftReplicaIdentity) (es : BatchEntries) (lent : List ℕ) where
@@ -82,46 +76,46 @@ module _ (n : ℕ) (d : RaftReplicaIdentity) (es : BatchEntries) (lent : List �
       let e : n - i ≡ suc (n - (i + 1)) = (omega arith) ∙ add-one (n - (i + 1)) in
       rw (e, ← add-one i)
 
-  extend_none : (i : ℕ) (p : Preview) (cs : List ℕ) → n ≤ i → extend_from (n - i) i d es lent p cs ≡ ran none p cs
+  extend_none : (i : ℕ) (p : Preview) (cs : List ℕ) → n ≤ i → extend_from (n - i) i d es lent p cs ≡ ran None p cs
   unfolding extend_from
   extend_none i p cs h = let e : n - i ≡ 0 = omega arith in rw e
 
   -- Where the loop's test is reached: i entries were taken.
-  pub record Running (p₀ : Preview) (cs₀ : List ℕ) (p : Preview) (cs : List ℕ) (o : Prepared) (i : ℕ) : Type 0 where
+  pub record Running (p₀ : Preview) (cs₀ : List ℕ) (p : Preview) (cs : List ℕ) (o : Result (Unit {0}) Refusal) (i : ℕ) : Type 0 where
     pub few : n ≤ 32
     pub among : i ≤ n
-    pub ready : o ≡ P.Ready
+    pub ready : o ≡ (Ok tt)
     pub sits : Sits p cs
     pub whole : extend_from n 0 d es lent p₀ cs₀ ≡ extend_from (n - i) i d es lent p cs
     pub long : length cs ≡ length cs₀
 
-  pub run_start : (p : Preview) (cs : List ℕ) → Sits p cs → n ≤ 32 → Running p cs p cs P.Ready 0
+  pub run_start : (p : Preview) (cs : List ℕ) → Sits p cs → n ≤ 32 → Running p cs p cs (Ok tt) 0
   run_start p cs s few =
       let e : n ≡ n - 0 = omega arith in
       record { few = few; among = omega arith; ready = refl; sits = s; whole = ap (λ (m : ℕ). extend_from m 0 d es lent p cs) e; long = refl }
 
-  module _ (p₀ : Preview) (cs₀ : List ℕ) (p : Preview) (cs : List ℕ) (o : Prepared) (i : ℕ) (k : Running p₀ cs₀ p cs o i) where
+  module _ (p₀ : Preview) (cs₀ : List ℕ) (p : Preview) (cs : List ℕ) (o : Result (Unit {0}) Refusal) (i : ℕ) (k : Running p₀ cs₀ p cs o i) where
     -- all were taken
     pub run_end : n ≤ i → ran_of (record { answer = o; preview = p }) cs ≡ extend_from n 0 d es lent p₀ cs₀
-    run_end l = ap (λ (a : Prepared). ran_of (record { answer = a; preview = p }) cs) k.ready ∙ sym (k.whole ∙ extend_none i p cs l)
+    run_end l = ap (λ (a : Result (Unit {0}) Refusal). ran_of (record { answer = a; preview = p }) cs) k.ready ∙ sym (k.whole ∙ extend_none i p cs l)
 
-    module _ (l : i < n) (r : RaftLogEntryRecord) (er : r ≡ record_at es i d) (a : Checked) (ea : checked_of a ≡ first_of (entry_form_rows p.lsn (log_entry_of r lent))) where
+    module _ (l : i < n) (r : RaftLogEntryRecord) (er : r ≡ record_at es i d) (a : Result (Unit {0}) Refusal) (ea : checked_of a ≡ first_of (entry_form_rows p.lsn (log_entry_of r lent))) where
       -- refused for its form
-      formed_out : (c : ℕ) → first_of (entry_form_rows p.lsn (log_entry_of r lent)) ≡ some c → entry_ran p r cs lent ≡ ran (some c) p cs
+      formed_out : (c : ℕ) → first_of (entry_form_rows p.lsn (log_entry_of r lent)) ≡ Some c → entry_ran p r cs lent ≡ ran (Some c) p cs
       unfolding entry_ran
       formed_out c w = ap (λ (z : Option ℕ). formed_by z p cs (taken_at p (spot_of p.head r.index) r cs lent)) w
 
-      pub run_formed : (why : Refusal) → a ≡ C.Refused why → ran_of (record { answer = P.Refused why; preview = p }) cs ≡ extend_from n 0 d es lent p₀ cs₀
+      pub run_formed : (why : Refusal) → a ≡ Err why → ran_of (record { answer = Err why; preview = p }) cs ≡ extend_from n 0 d es lent p₀ cs₀
       run_formed why e =
           sym
           (k.whole
           ∙ extend_step i p cs l
-          ∙ turn_ends (one i p cs) (ran (prepared_of (P.Refused why)) p cs) (rest i) _
+          ∙ turn_ends (one i p cs) (ran (checked_of (Err why)) p cs) (rest i) _
           (ap (λ (z : RaftLogEntryRecord). entry_ran p z cs lent) (sym er) ∙ formed_out _ (sym ea ∙ ap checked_of e)) refl)
 
       -- taken at the place of its index
-      module _ (ok : a ≡ C.Ok) (q : ℕ) (place : q ≡ spot_of p.head r.index) where
-        formed : first_of (entry_form_rows p.lsn (log_entry_of r lent)) ≡ none
+      module _ (ok : a ≡ (Ok tt)) (q : ℕ) (place : q ≡ spot_of p.head r.index) where
+        formed : first_of (entry_form_rows p.lsn (log_entry_of r lent)) ≡ None
         formed = sym ea ∙ ap checked_of ok
 
         pub run_takes : Takes p q r cs lent
@@ -137,21 +131,21 @@ module _ (n : ℕ) (d : RaftReplicaIdentity) (es : BatchEntries) (lent : List �
           one_is : one i p cs ≡ ran_of t cs'
           one_is = ap (λ (z : RaftLogEntryRecord). entry_ran p z cs lent) (sym er) ∙ formed_in ∙ sym et
 
-          pub run_refused : (why : Refusal) → t.answer ≡ P.Refused why → ran_of (record { answer = P.Refused why; preview = t.preview }) cs' ≡ extend_from n 0 d es lent p₀ cs₀
+          pub run_refused : (why : Refusal) → t.answer ≡ Err why → ran_of (record { answer = Err why; preview = t.preview }) cs' ≡ extend_from n 0 d es lent p₀ cs₀
           run_refused why e =
-              ap (λ (z : Prepared). ran_of (record { answer = z; preview = t.preview }) cs') (sym e)
-              ∙ sym (k.whole ∙ extend_step i p cs l ∙ turn_ends (one i p cs) (ran_of t cs') (rest i) _ one_is (ap prepared_of e))
+              ap (λ (z : Result (Unit {0}) Refusal). ran_of (record { answer = z; preview = t.preview }) cs') (sym e)
+              ∙ sym (k.whole ∙ extend_step i p cs l ∙ turn_ends (one i p cs) (ran_of t cs') (rest i) _ one_is (ap checked_of e))
 
-          pub run_next : r.index ≤ u64_max → t.answer ≡ P.Ready → Running p₀ cs₀ t.preview cs' o (i + 1)
+          pub run_next : r.index ≤ u64_max → t.answer ≡ (Ok tt) → Running p₀ cs₀ t.preview cs' o (i + 1)
           run_next small e =
               let y : entry_ran p r cs lent ≡ ran_of t cs' = formed_in ∙ sym et in
-              let m : Next p cs (log_entry_of r lent) (entry_ran p r cs lent) = entry_next p cs k.sits r lent small (ap (λ (z : Ran). z.refused) y ∙ ap prepared_of e) in
+              let m : Next p cs (log_entry_of r lent) (entry_ran p r cs lent) = entry_next p cs k.sits r lent small (ap (λ (z : Ran). z.refused) y ∙ ap checked_of e) in
               let m' : Next p cs (log_entry_of r lent) (ran_of t cs') = rw y at m in
               record {
                 few = k.few;
                 among = omega arith;
                 ready = k.ready;
                 sits = record { fits = m'.means.fits; places = m'.means.places; bytes = m'.means.bytes };
-                whole = k.whole ∙ extend_step i p cs l ∙ turn_goes (one i p cs) (ran_of t cs') (rest i) one_is (ap prepared_of e);
+                whole = k.whole ∙ extend_step i p cs l ∙ turn_goes (one i p cs) (ran_of t cs') (rest i) one_is (ap checked_of e);
                 long = omega (arith, m'.means.bytes, k.sits.bytes, k.long);
               }

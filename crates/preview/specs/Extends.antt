@@ -1,9 +1,7 @@
 -- What the entries of a batch are to the definition: a refusal ends the whole, else the rest of the batch follows on the preview that
 -- the entries leave.
 -- Assumes nothing.
-use Rattle.std.specs.Prelude.{ℕ, ◌+◌, ◌≡◌, ◌⊎◌, List, [], ◌∷◌, ◌++◌}
-use Rattle.std.proofs.Math.Option.{none, some}
-use Rattle.definition.specs.Table.{Result, refusal}
+use Rattle.std.specs.Prelude.{ℕ, ◌+◌, ◌≡◌, ◌⊎◌, List, [], ◌∷◌, ◌++◌, None, Some, Result, Err}
 use Rattle.definition.specs.Records.{Identity, LogEntry, entry}
 use Rattle.definition.specs.Log as D
 use Rattle.definition.specs.Batch as M
@@ -22,19 +20,19 @@ records_of i [] = []
 records_of i (e ∷ es) = (i, entry 1 e.log_entry) ∷ records_of i es
 
 -- An entry refuses the batch ..
-pub record Ends (x : Ran) (whole : Result M.Preview) : Type 0 where
+pub record Ends (x : Ran) (whole : Result M.Preview ℕ) : Type 0 where
   pub number : ℕ
-  pub refused : x.refused ≡ some number
-  pub says : whole ≡ refusal number
+  pub refused : x.refused ≡ Some number
+  pub says : whole ≡ Err number
 
 -- .. or none does, and what follows the entries es is asked on the preview that they leave.
-pub record Goes (x : Ran) (i : Identity) (batch : M.Batch) (was : D.Log ℕ) (es : List M.BatchEntry) (v : M.Preview) (whole : Result M.Preview) : Type 0 where
+pub record Goes (x : Ran) (i : Identity) (batch : M.Batch) (was : D.Log ℕ) (es : List M.BatchEntry) (v : M.Preview) (whole : Result M.Preview ℕ) : Type 0 where
   pub next : M.Preview
-  pub refused : x.refused ≡ none
+  pub refused : x.refused ≡ None
   pub says : whole ≡ M.hardened i batch was batch.hard_state next
   pub means : Means x.preview.head x.preview.entries x.bytes next.log
   pub lsn : next.lsn ≡ x.preview.lsn
   pub records : next.records ≡ v.records ++ records_of i es
 
-abbrev pub Extends : Ran → Identity → M.Batch → D.Log ℕ → List M.BatchEntry → M.Preview → Result M.Preview → Type 0
+abbrev pub Extends : Ran → Identity → M.Batch → D.Log ℕ → List M.BatchEntry → M.Preview → Result M.Preview ℕ → Type 0
 Extends x i batch was es v whole = Ends x whole ⊎ Goes x i batch was es v whole

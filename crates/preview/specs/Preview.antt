@@ -1,17 +1,14 @@
 -- The model of the entries of a batch on a preview: what one does, and what the rest of them do.
 -- Assumes nothing.
-use Rattle.std.specs.Prelude.{ℕ, zero, suc, ◌+◌, ◌-◌, ◌≤◌, ◌≡◌, List, Bool, ◌&&◌, length, get_or, set, if◌then◌else◌}
-use Rattle.std.proofs.Math.Option.{Option, none, some}
+use Rattle.std.specs.Prelude.{ℕ, zero, suc, ◌+◌, ◌-◌, ◌≡◌, List, Bool, ◌&&◌, length, get_or, set, if◌then◌else◌, Option, None, Some}
 use Rattle.definition.specs.Table.{◌=?◌, ◌<?◌, ◌≤?◌, first_of}
 use Rattle.definition.specs.Log as D
 use Rattle.ids.specs.declared.Lsn.{Lsn}
 use Rattle.ids.specs.declared.RaftReplicaIdentity.{RaftReplicaIdentity}
-use Rattle.ids.specs.Refusal.{number_of}
+use Rattle.ids.specs.Refusal.{checked_of}
 use Rattle.codec.specs.declared.RaftLogEntryRecord.{RaftLogEntryRecord}
 use Rattle.codec.specs.Records.{log_entry_of}
 use Rattle.view.specs.declared.Header.{Header}
-use Rattle.view.specs.declared.Place.{Place}
-use Rattle.view.specs.declared.Place.TheVariants as Q
 use Rattle.view.specs.declared.RecoveredRaftLogEntry.{RecoveredRaftLogEntry}
 use Rattle.view.specs.Decisions.{replay_answer}
 use Rattle.view.specs.Meaning.{no_entry, base_of, Fits}
@@ -19,8 +16,6 @@ use Rattle.view.specs.Readers.{place_of}
 use Rattle.replay.specs.Plan.{look_of, existing_in, prior_in, Plan, entry_plan}
 use Rattle.batches.specs.declared.BatchEntries.{BatchEntries}
 use Rattle.preview.specs.declared.Preview.{Preview}
-use Rattle.preview.specs.declared.Prepared.{Prepared}
-use Rattle.preview.specs.declared.Prepared.TheVariants as P
 use Rattle.preview.specs.declared.Extended.{Extended}
 use Rattle.batches.specs.Checks.{entry_form_rows}
 use Rattle.batches.specs.Meaning.{record_at}
@@ -40,26 +35,22 @@ holds_at h q x = base_of h ≤? x && x - base_of h =? q
 abbrev pub within : ℕ → ℕ
 within n = if n <? 64 then n else 0
 
-abbrev pub spot_in : Place → ℕ → ℕ
-spot_in Q.None n = within n
-spot_in (Q.Held q) n = q
+abbrev pub spot_in : Option ℕ → ℕ → ℕ
+spot_in None n = within n
+spot_in (Some q) n = q
 
 abbrev pub spot_of : Header → ℕ → ℕ
 spot_of h x = spot_in (place_of h x) h.len
 
 -- What an answer refuses.
 abbrev pub refusal_in : D.Answer → Option ℕ
-refusal_in D.counted = none
-refusal_in D.appended = none
-refusal_in D.idempotentReplay = none
-refusal_in D.kept = none
-refusal_in D.finished = none
-refusal_in (D.replaced_suffix r) = none
-refusal_in (D.refused n) = some n
-
-abbrev pub prepared_of : Prepared → Option ℕ
-prepared_of P.Ready = none
-prepared_of (P.Refused why) = some (number_of why)
+refusal_in D.counted = None
+refusal_in D.appended = None
+refusal_in D.idempotentReplay = None
+refusal_in D.kept = None
+refusal_in D.finished = None
+refusal_in (D.replaced_suffix r) = None
+refusal_in (D.refused n) = Some n
 
 -- The refusal that ended it, the preview, and the bytes of its block.
 pub record Ran : Type 0 where
@@ -68,15 +59,15 @@ pub record Ran : Type 0 where
   pub bytes : List ℕ
 
 abbrev pub ran_of : Extended → List ℕ → Ran
-ran_of d cs = record { refused = prepared_of d.answer; preview = d.preview; bytes = cs }
+ran_of d cs = record { refused = checked_of d.answer; preview = d.preview; bytes = cs }
 
 abbrev pub ran : Option ℕ → Preview → List ℕ → Ran
 ran o p cs = record { refused = o; preview = p; bytes = cs }
 
 -- A plan, refused or written with place q: an accepted entry takes the next LSN.
 abbrev pub written_by : Option ℕ → Preview → ℕ → Plan → Ran
-written_by (some n) p q d = ran (some n) p d.bytes
-written_by none p q d = ran none (record { head = d.head; entries = set p.entries q d.entry; lsn = p.lsn + 1 }) d.bytes
+written_by (Some n) p q d = ran (Some n) p d.bytes
+written_by None p q d = ran None (record { head = d.head; entries = set p.entries q d.entry; lsn = p.lsn + 1 }) d.bytes
 
 -- The plan of a record that looks at place q of a preview.
 abbrev pub plan_at : Preview → ℕ → RaftLogEntryRecord → List ℕ → List ℕ → Plan
@@ -88,20 +79,20 @@ taken_at p q r cs lent = written_by (refusal_in (plan_at p q r cs lent).answer) 
 
 -- An entry: refused for its form (46, 3, 8, 9, 4, 10), else taken (25 to 32).
 abbrev pub formed_by : Option ℕ → Preview → List ℕ → Ran → Ran
-formed_by (some n) p cs x = ran (some n) p cs
-formed_by none p cs x = x
+formed_by (Some n) p cs x = ran (Some n) p cs
+formed_by None p cs x = x
 
 unfoldable pub entry_ran : Preview → RaftLogEntryRecord → List ℕ → List ℕ → Ran
 entry_ran p r cs lent = formed_by (first_of (entry_form_rows p.lsn (log_entry_of r lent))) p cs (taken_at p (spot_of p.head r.index) r cs lent)
 
 -- The first refused entry ends it, else the rest follows.
 abbrev pub onward : Option ℕ → Ran → Ran → Ran
-onward (some n) x rest = x
-onward none x rest = rest
+onward (Some n) x rest = x
+onward None x rest = rest
 
 -- n entries of the batch, from place i on.
 unfoldable pub extend_from : ℕ → ℕ → RaftReplicaIdentity → BatchEntries → List ℕ → Preview → List ℕ → Ran
-extend_from zero i d es lent p cs = ran none p cs
+extend_from zero i d es lent p cs = ran None p cs
 extend_from (suc n) i d es lent p cs =
     onward (entry_ran p (record_at es i d) cs lent).refused (entry_ran p (record_at es i d) cs lent)
     (extend_from n (suc i) d es lent (entry_ran p (record_at es i d) cs lent).preview (entry_ran p (record_at es i d) cs lent).bytes)
@@ -116,4 +107,4 @@ pub record Sits (p : Preview) (cs : List ℕ) : Type 0 where
 pub record Takes (p : Preview) (q : ℕ) (r : RaftLogEntryRecord) (cs : List ℕ) (lent : List ℕ) : Type 0 where
   pub sits : Sits p cs
   pub place : q ≡ spot_of p.head r.index
-  pub formed : first_of (entry_form_rows p.lsn (log_entry_of r lent)) ≡ none
+  pub formed : first_of (entry_form_rows p.lsn (log_entry_of r lent)) ≡ None

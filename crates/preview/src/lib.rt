@@ -3,34 +3,26 @@
 
 ghost use Rattle.std.specs.Prelude.{◌≡◌, ◌<◌, ◌≤◌};
 ghost use Rattle.replay.specs.Plan.{planned, Replayable};
-ghost use Rattle.replay.specs.Plan.{answer_of};
-ghost use Rattle.preview.specs.Preview.{supply_plan, holds_at, within, refusal_in, prepared_of, ran_of, taken_at, extend_from, Sits, Takes};
+ghost use Rattle.preview.specs.Preview.{supply_plan, holds_at, within, ran_of, taken_at, extend_from, Sits, Takes};
 
 use batches::{BatchEntries, batch, entry};
 use codec::RaftLogEntryRecord;
-use ids::{Checked, Lsn, RaftReplicaIdentity, Refusal};
-use replay::{Change, Observation};
+use ids::{Lsn, RaftReplicaIdentity, Refusal};
+use replay::Change;
 use view::{Header, RecoveredRaftLogEntry};
 
 // The log as the entries so far would leave it, and the LSN of the last of them. The commands stand in a block of 4,096 bytes
 // that is lent beside it.
-#[derive(Clone, Copy)]
+#[derive(Clone, Copy, Debug, PartialEq, Eq)]
 pub struct Preview {
     pub head: Header,
     pub entries: [RecoveredRaftLogEntry; 64],
     pub lsn: u64,
 }
 
-// Whether all was taken, or what refused the first entry that was not.
-#[derive(Clone, Copy)]
-pub enum Prepared {
-    Ready,
-    Refused(Refusal),
-}
-
-#[derive(Clone, Copy)]
+#[derive(Clone, Copy, Debug, PartialEq, Eq)]
 pub struct Extended {
-    pub answer: Prepared,
+    pub answer: Result<(), Refusal>,
     pub preview: Preview,
 }
 
@@ -54,39 +46,18 @@ pub fn supply(
     replay::write_entry(head, e, r, lsn, block, lent, outcome)
 }
 
-// What an answer refuses.
-fn refusal_in(answer: Observation) -> Prepared
-    ensures { prepared_of result ≡ refusal_in (answer_of answer) }
-{
-    match answer {
-        Observation::Counted => Prepared::Ready,
-        Observation::Appended => Prepared::Ready,
-        Observation::IdempotentReplay => Prepared::Ready,
-        Observation::ReplacedSuffix(_) => Prepared::Ready,
-        Observation::Kept => Prepared::Ready,
-        Observation::Refused(why) => Prepared::Refused(why),
-    }
-}
-
 // Whether an index is the one of place q.
 fn holds(head: Header, q: usize, index: u64) -> bool
     ensures { result ≡ holds_at head q index }
 {
-    let first = head.base();
-    if index < first {
-        return false;
-    }
-    index - first == q as u64
+    index.checked_sub(head.base()) == Some(q as u64)
 }
 
 // A place, 0 for one past the 64.
 fn place_within(q: usize) -> usize
     ensures { result ≡ within q }
 {
-    if q < 64 {
-        return q;
-    }
-    0
+    if q < 64 { q } else { 0 }
 }
 
 // An entry whose form is good, at place q: taken with the next LSN, or refused (25 to 32).
@@ -101,28 +72,22 @@ fn take_entry(
     ensures { ran_of result block.new ≡ taken_at preview q r block.old lent.now }
 {
     let head = preview.head;
-    let at = replay::look_before(head, r.index);
     let e = preview.entries[q];
-    let prior = preview.entries[at];
+    let prior = preview.entries[replay::look_before(head, r.index)];
     let lsn = preview.lsn + 1;
-    let next = Lsn(lsn);
-    let change = supply(head, e, prior, r, next, block, lent);
-    let answer = change.answer;
-    let refused = refusal_in(answer);
-    if let Prepared::Refused(why) = refused {
+    let change = supply(head, e, prior, r, Lsn(lsn), block, lent);
+    if let Err(why) = change.answer {
         return Extended {
-            answer: Prepared::Refused(why),
-            preview: preview,
+            answer: Err(why),
+            preview,
         };
     }
-    let after = change.head;
-    let entry = change.entry;
     let mut t = preview;
-    t.head = after;
-    t.entries[q] = entry;
+    t.head = change.head;
+    t.entries[q] = change.entry;
     t.lsn = lsn;
     Extended {
-        answer: Prepared::Ready,
+        answer: Ok(()),
         preview: t,
     }
 }
@@ -139,38 +104,27 @@ pub fn extend(
     requires { (Sits preview block.old) × (entries.count ≤ 32) }
     ensures { ran_of result block.new ≡ extend_from entries.count 0 identity entries lent.now preview block.old }
 {
-    let n = entries.count;
     let mut t = preview;
-    let mut answer = Prepared::Ready;
-    let mut i: usize = 0;
-    'batch: while i < n {
+    let mut answer = Ok(());
+    'batch: for i in 0..entries.count {
         let r = batch::record_at(entries, i, identity);
-        if let Checked::Refused(why) = entry::check_entry(t.lsn, r, lent) {
-            answer = Prepared::Refused(why);
+        if let Err(why) = entry::check_entry(t.lsn, r, lent) {
+            answer = Err(why);
             break 'batch;
         }
-        let head = t.head;
-        let len = head.len;
-        let index = r.index;
         let mut q: usize = 0;
-        while q < len {
-            if holds(head, q, index) {
+        while q < t.head.len {
+            if holds(t.head, q, r.index) {
                 break;
             }
-            q = q + 1;
+            q += 1;
         }
-        let at = place_within(q);
-        let taken = take_entry(t, at, r, block, lent);
-        let outcome = taken.answer;
+        let taken = take_entry(t, place_within(q), r, block, lent);
         t = taken.preview;
-        if let Prepared::Refused(why) = outcome {
-            answer = Prepared::Refused(why);
+        if let Err(why) = taken.answer {
+            answer = Err(why);
             break 'batch;
         }
-        i = i + 1;
     }
-    Extended {
-        answer: answer,
-        preview: t,
-    }
+    Extended { answer, preview: t }
 }

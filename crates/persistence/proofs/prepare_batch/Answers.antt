@@ -22,12 +22,12 @@ pub try_batch-tried-requires : goal.try_batch-tried-requires
 try_batch-tried-requires c =
     kept (owns c.passes.ensures c.if-not-passes.false c.own_of-own.ensures)
 
-pub returns-in-Refused : goal.returns-in-Refused
-returns-in-Refused c =
+pub returns-in-Err : goal.returns-in-Err
+returns-in-Err c =
     let a = c.args in
     let w = owns c.passes.ensures c.if-not-passes.false c.own_of-own.ensures in
-    let small : (n : ℕ) → get_or a.batch.entries.index n 0 ≤ u64_max = λ n. search rules in
-    answers_refused a.batch a.lent.now w small _ (told_refused _ _ _ c.try_batch-tried.ensures c.in-Refused.is) c.refused-in-Refused.ensures
+    let small : (n : ℕ) → get_or a.batch.entries.index n 0 ≤ u64_max = λ n. search (rules, c.well_formed) in
+    answers_refused a.batch a.lent.now w small _ (told_refused _ _ _ c.try_batch-tried.ensures c.in-Err.is) c.refused-in-Err.ensures
 
 pub records_of-requires : goal.records_of-requires
 records_of-requires c =
@@ -39,5 +39,5 @@ returns c =
     let a = c.args in
     let w = owns c.passes.ensures c.if-not-passes.false c.own_of-own.ensures in
     let q = told_refused _ _ _ c.try_batch-tried.ensures c.in_default.is in
-    let small : (n : ℕ) → get_or a.batch.entries.index n 0 ≤ u64_max = λ n. search rules in
+    let small : (n : ℕ) → get_or a.batch.entries.index n 0 ≤ u64_max = λ n. search (rules, c.well_formed) in
     answers_ready a.batch a.lent.now w small q (tried_few a.state a.store.now a.identity a.batch a.lent.now _ q) c.records_of.ensures

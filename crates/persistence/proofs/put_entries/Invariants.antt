@@ -1,14 +1,10 @@
 -- `put_entries` meets its contract. The invariant: the records of the first i entries are in place.
 use mathlib.Core.Path.{◌≡◌}
-use Prim.Native.Nat.{◌≤◌, ◌-◌}
-use lib.ListN.{length, take}
+use lib.ListN.{take}
 use Rattle.store.specs.Splice.{splice}
 use Rattle.persistence.specs.Answer.{entry_records}
 use Rattle.persistence.proofs.put_entries.Given as goal
 
 abbrev pub invariant-loop-i : goal.invariant-loop-i
 invariant-loop-i l =
-    (l.i ≤ l.entries.count) × (l.entries.count ≤ 32) × (l.base ≤ 1) × (length l.initial.records ≡ 34) × (l.records ≡ splice l.initial.records l.base (take l.i (entry_records l.entries.count l.entries l.identity)))
-
-abbrev pub decreases-loop-i : goal.decreases-loop-i
-decreases-loop-i l = l.entries.count - l.i
+    (l.records ≡ splice l.initial.records l.base (take l.i (entry_records l.entries.count l.entries l.identity)))

@@ -2,7 +2,6 @@
 use Prim.Native.Nat.{◌+◌, ◌≤◌}
 use mathlib.Core.Path.{refl}
 use native.Mathlib.Omega.{arith}
-use Rattle.persistence.specs.Answer.{hard_state_count}
 use Rattle.persistence.proofs.Recorded.{pointer_few, hard_state_few, records_are}
 use Rattle.persistence.proofs.records_of.Goals as goal
 
@@ -40,4 +39,4 @@ overflow_add-result c =
 pub returns : goal.returns
 returns c =
     let a = c.args in
-    records_are a.identity a.batch c.requires c.pointer_count-base.result c.hard_state_count.result (c.pointer_count-base.result + a.batch.entries.count) _ _ _ c.pointer_count-base.ensures c.hard_state_count.ensures c.pointer_record-pointer.ensures c.hard_state_record-last.ensures c.put_entries-records.ensures refl
+    records_are a.identity a.batch c.requires c.pointer_count-base.result c.hard_state_count.result (c.pointer_count-base.result + a.batch.entries.count) _ _ _ c.pointer_count-base.ensures c.hard_state_count.ensures c.pointer_record.ensures c.hard_state_record.ensures c.put_entries-records.ensures refl

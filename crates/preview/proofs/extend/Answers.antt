@@ -21,51 +21,51 @@ pub take_entry-taken-requires : goal.take_entry-taken-requires
 take_entry-taken-requires c =
     let h = c.batch.t.head in
     let x = c.record_at-r.result.index in
-    let spot : c.place_within-at.result ≡ spot_of h x =
-    c.place_within-at.ensures
+    let spot : c.place_within.result ≡ spot_of h x =
+    c.place_within.ensures
     ∙ (elim c.loop-q-test.branch [
       | else-loop-q-test w ↦ spot_missing h x c.loop-q.q w.loop-q-test.false c.loop-q.invariant.0 c.loop-q.invariant.1
       | then-loop-q-test+then-holds w ↦ spot_found h x c.loop-q.q c.batch.invariant.sits.fits.short w.loop-q-test.true (sym w.holds.ensures ∙ w.if-holds.true)
     ])
     in
     run_takes c.args.entries.count c.args.identity c.args.entries c.args.lent.now c.args.preview c.args.block.now c.batch.t c.batch.block c.batch.answer-1 c.batch.i c.batch.invariant
-    c.batch-test.true c.record_at-r.result c.record_at-r.ensures c.check_entry.result c.check_entry.ensures c.in_default.is c.place_within-at.result spot
+    c.batch-test.true c.record_at-r.result c.record_at-r.ensures c.check_entry.result c.check_entry.ensures c.in_default.is c.place_within.result spot
 
 pub batch-preserved : goal.batch-preserved
 batch-preserved c =
     let h = c.batch.t.head in
     let x = c.record_at-r.result.index in
-    let spot : c.place_within-at.result ≡ spot_of h x =
-    c.place_within-at.ensures
+    let spot : c.place_within.result ≡ spot_of h x =
+    c.place_within.ensures
     ∙ (elim c.loop-q-test.branch [
       | else-loop-q-test w ↦ spot_missing h x c.loop-q.q w.loop-q-test.false c.loop-q.invariant.0 c.loop-q.invariant.1
       | then-loop-q-test+then-holds w ↦ spot_found h x c.loop-q.q c.batch.invariant.sits.fits.short w.loop-q-test.true (sym w.holds.ensures ∙ w.if-holds.true)
     ])
     in
     run_next c.args.entries.count c.args.identity c.args.entries c.args.lent.now c.args.preview c.args.block.now c.batch.t c.batch.block c.batch.answer-1 c.batch.i c.batch.invariant
-    c.batch-test.true c.record_at-r.result c.record_at-r.ensures c.check_entry.result c.check_entry.ensures c.in_default.is c.place_within-at.result spot
-    c.take_entry-taken.result _ c.take_entry-taken.ensures (omega (arith, c.record_at-r.type_inv)) c.in_default-outcome.is
+    c.batch-test.true c.record_at-r.result c.record_at-r.ensures c.check_entry.result c.check_entry.ensures c.in_default.is c.place_within.result spot
+    c.take_entry-taken.result _ c.take_entry-taken.ensures (omega (arith, c.record_at-r.type_inv)) c.in_default-answer.is
 
 pub returns-after-batch : goal.returns-after-batch
 returns-after-batch c =
     run_end c.args.entries.count c.args.identity c.args.entries c.args.lent.now c.args.preview c.args.block.now c.batch.t c.batch.block c.batch.answer-1 c.batch.i c.batch.invariant c.batch-test.false
 
-pub returns-in-Refused : goal.returns-in-Refused
-returns-in-Refused c =
+pub returns-in-Err : goal.returns-in-Err
+returns-in-Err c =
     run_formed c.args.entries.count c.args.identity c.args.entries c.args.lent.now c.args.preview c.args.block.now c.batch.t c.batch.block c.batch.answer-1 c.batch.i c.batch.invariant
-    c.batch-test.true c.record_at-r.result c.record_at-r.ensures c.check_entry.result c.check_entry.ensures _ c.in-Refused.is
+    c.batch-test.true c.record_at-r.result c.record_at-r.ensures c.check_entry.result c.check_entry.ensures _ c.in-Err.is
 
-pub returns-in-Refused-outcome : goal.returns-in-Refused-outcome
-returns-in-Refused-outcome c =
+pub returns-in-Err-answer : goal.returns-in-Err-answer
+returns-in-Err-answer c =
     let h = c.batch.t.head in
     let x = c.record_at-r.result.index in
-    let spot : c.place_within-at.result ≡ spot_of h x =
-    c.place_within-at.ensures
+    let spot : c.place_within.result ≡ spot_of h x =
+    c.place_within.ensures
     ∙ (elim c.loop-q-test.branch [
       | else-loop-q-test w ↦ spot_missing h x c.loop-q.q w.loop-q-test.false c.loop-q.invariant.0 c.loop-q.invariant.1
       | then-loop-q-test+then-holds w ↦ spot_found h x c.loop-q.q c.batch.invariant.sits.fits.short w.loop-q-test.true (sym w.holds.ensures ∙ w.if-holds.true)
     ])
     in
     run_refused c.args.entries.count c.args.identity c.args.entries c.args.lent.now c.args.preview c.args.block.now c.batch.t c.batch.block c.batch.answer-1 c.batch.i c.batch.invariant
-    c.batch-test.true c.record_at-r.result c.record_at-r.ensures c.check_entry.result c.check_entry.ensures c.in_default.is c.place_within-at.result spot
-    c.take_entry-taken.result _ c.take_entry-taken.ensures _ c.in-Refused-outcome.is
+    c.batch-test.true c.record_at-r.result c.record_at-r.ensures c.check_entry.result c.check_entry.ensures c.in_default.is c.place_within.result spot
+    c.take_entry-taken.result _ c.take_entry-taken.ensures _ c.in-Err-answer.is

@@ -7,13 +7,10 @@ use Rattle.preview.proofs.Running.{Running}
 use Rattle.preview.proofs.extend.Given as goal
 
 abbrev pub invariant-loop-q : goal.invariant-loop-q
-invariant-loop-q l = (l.q ≤ l.len) × ((k : ℕ) → k < l.q → holds_at l.head k l.index ≡ false)
+invariant-loop-q l = (l.q ≤ l.t.head.len) × ((k : ℕ) → k < l.q → holds_at l.t.head k l.r.index ≡ false)
 
 abbrev pub decreases-loop-q : goal.decreases-loop-q
-decreases-loop-q l = l.len - l.q
+decreases-loop-q l = l.t.head.len - l.q
 
 abbrev pub invariant-batch : goal.invariant-batch
-invariant-batch l = Running l.n l.identity l.entries l.lent l.initial.t l.initial.block l.t l.block l.answer l.i
-
-abbrev pub decreases-batch : goal.decreases-batch
-decreases-batch l = l.n - l.i
+invariant-batch l = Running l.entries.count l.identity l.entries l.lent l.initial.t l.initial.block l.t l.block l.answer l.i

@@ -1,17 +1,9 @@
 -- `check_batch` meets its contract.
 use mathlib.Core.Path.{sym, ◌∙◌}
-use borrow.Author.Tests.{eq-eqb, ne_eqb, lt-ltb, le-ltb}
+use borrow.Author.Tests.{ne_eqb, lt-ltb, le-ltb}
 use Rattle.definition.specs.Batch.{batch_rows}
 use Rattle.batches.proofs.Entries.{entries_count}
 use Rattle.batches.proofs.batch.check_batch.Goals as goal
-
-pub returns-then-identity-eq0 : goal.returns-then-identity-eq0
-unfolding batch_rows
-returns-then-identity-eq0 c = λ lent was. simp (eq-eqb _ _ c.if-identity-eq0.true)
-
-pub returns-then-identity-eq0-2 : goal.returns-then-identity-eq0-2
-unfolding batch_rows
-returns-then-identity-eq0-2 c = λ lent was. simp (eq-eqb _ _ c.if-identity-eq0-2.true, ne_eqb _ _ c.if-identity-eq0.false)
 
 pub returns-then-batch-gt-MAX_BATCH_ENTRIES : goal.returns-then-batch-gt-MAX_BATCH_ENTRIES
 unfolding batch_rows

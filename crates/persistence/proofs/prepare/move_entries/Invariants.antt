@@ -4,7 +4,4 @@ use Rattle.persistence.proofs.Moved.{Moving}
 use Rattle.persistence.proofs.prepare.move_entries.Given as goal
 
 abbrev pub invariant-loop-j : goal.invariant-loop-j
-invariant-loop-j l = Moving l.k l.n l.initial.t l.t l.j
-
-abbrev pub decreases-loop-j : goal.decreases-loop-j
-decreases-loop-j l = l.n - l.j
+invariant-loop-j l = Moving l.k (l.initial.t.head.len - l.k) l.initial.t l.t l.j

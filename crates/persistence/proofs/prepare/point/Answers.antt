@@ -8,10 +8,10 @@ use Rattle.persistence.proofs.Pointed.{point_out, point_lsn, point_in_lem}
 use borrow.Author.Rules.{rules}
 use Rattle.persistence.proofs.prepare.point.Goals as goal
 
-pub returns-in-Refused : goal.returns-in-Refused
-returns-in-Refused c =
+pub returns-in-Err : goal.returns-in-Err
+returns-in-Err c =
     let a = c.args in
-    point_out (identity_of a.identity) a.preview a.p a.block.now c.held_at-held.result c.check_pointer.result c.held_at-held.ensures c.check_pointer.ensures _ c.in-Refused.is
+    point_out (identity_of a.identity) a.preview a.p a.block.now c.held_at-held.result c.check_pointer.result c.held_at-held.ensures c.check_pointer.ensures _ c.in-Err.is
 
 pub overflow_add-lsn : goal.overflow_add-lsn
 overflow_add-lsn c =
@@ -29,5 +29,5 @@ pub returns : goal.returns
 returns c =
     let a = c.args in
     let k = c.covered_by-k in
-    point_in_lem (identity_of a.identity) a.preview a.p a.block.now c.held_at-held.result c.check_pointer.result c.held_at-held.ensures c.check_pointer.ensures c.in_default.is k.result c.with_pointer-next.result c.move_entries-t.result _ k.ensures c.with_pointer-next.ensures c.move_entries-t.ensures
+    point_in_lem (identity_of a.identity) a.preview a.p a.block.now c.held_at-held.result c.check_pointer.result c.held_at-held.ensures c.check_pointer.ensures c.in_default.is k.result c.with_pointer-t.result c.move_entries-t.result _ k.ensures c.with_pointer-t.ensures c.move_entries-t.ensures
     (dropped_is a.block.now k.result _ c.requires.bytes (covered_few a.preview.head a.p.last_included_index k.result k.ensures c.requires.fits.short) c.drop_cells.ensures)
