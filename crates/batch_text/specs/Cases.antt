@@ -1,13 +1,12 @@
 -- Computed tests of the lines of a batch, and of which may stand where. Each is one declaration over a list.
 -- Assumes nothing.
-use Rattle.std.specs.Prelude.{ℕ, Bool, true, false, not, ◌&&◌, List, [], ◌∷◌, get_or, replicate, T}
+use Rattle.std.specs.Prelude.{ℕ, Bool, true, false, not, ◌&&◌, List, [], ◌∷◌, get_or, replicate, T, Option, None, Some, unwrap_or}
 use Prim.Native.Char.{code}
 use Prim.Native.String.{String, [] as empty, ◌∷◌ as ◌then◌}
-use Rattle.std.proofs.Math.Option.{Option, none, some}
-use Rattle.definition.specs.Table.{◌=?◌, every, u64_max}
+use Rattle.definition.specs.Table.{◌=?◌, every, u64_max, is_some}
 use Rattle.definition.specs.Records.{Identity, same, addLearner, promoteLearner, removeReplica, Payload, normal, inside, configuration, same_payload, Checksum, same_pointer}
-use Rattle.codec.specs.declared.Vote.TheVariants as O
 use Rattle.text.specs.Text.{numeral_from, hex_digit, hex_from, fields_from}
+use Rattle.codec.specs.declared.DurableRaftEntryPayload.TheVariants as Y
 use Rattle.batch_text.specs.Text.{Said, pointer, entry, hard_state, show, finish_line, batch_line, fields_say, line_says}
 use Rattle.batch_text.specs.Order.{no_batch, with_entry, add_pointer, add_entry, add_hard_state, add_show, added}
 use Rattle.batch_text.specs.declared.BatchLine.{BatchLine}
@@ -22,16 +21,16 @@ bytes (c then s) = code c ∷ bytes s
 -- ---- equality
 
 same_number : Option ℕ → Option ℕ → Bool
-same_number none none = true
-same_number none (some b) = false
-same_number (some a) none = false
-same_number (some a) (some b) = a =? b
+same_number None None = true
+same_number None (Some b) = false
+same_number (Some a) None = false
+same_number (Some a) (Some b) = a =? b
 
 same_identity : Option Identity → Option Identity → Bool
-same_identity none none = true
-same_identity none (some j) = false
-same_identity (some i) none = false
-same_identity (some i) (some j) = same i j
+same_identity None None = true
+same_identity None (Some j) = false
+same_identity (Some i) None = false
+same_identity (Some i) (Some j) = same i j
 
 same_said : Said → Said → Bool
 same_said (pointer p) (pointer q) = same p.identity q.identity && same_pointer p.snapshot q.snapshot
@@ -52,10 +51,10 @@ same_said (show m) (hard_state b) = false
 same_said (show m) (show n) = m =? n
 
 says_this : Option Said → Option Said → Bool
-says_this none none = true
-says_this none (some b) = false
-says_this (some a) none = false
-says_this (some a) (some b) = same_said a b
+says_this None None = true
+says_this None (Some b) = false
+says_this (Some a) None = false
+says_this (Some a) (Some b) = same_said a b
 
 -- ---- finish and batch
 
@@ -67,32 +66,32 @@ whose s o = same_identity (batch_line (bytes s)) o
 
 heads : List Bool
 heads =
-    finishes "finish 0" (some 0)
-    ∷ finishes "finish 1" (some 1)
-    ∷ finishes "finish 2" none
-    ∷ finishes "finish 01" none
-    ∷ finishes "finish 00" none
-    ∷ finishes "finish " none
-    ∷ finishes "finish" none
-    ∷ finishes "finish  1" none
-    ∷ finishes "finish 1 " none
-    ∷ finishes " finish 1" none
-    ∷ finishes "Finish 1" none
-    ∷ finishes "finisk 1" none
-    ∷ finishes "finishs 1" none
-    ∷ finishes "" none
-    ∷ whose "batch 2 3" (some (record { group = 2; replica = 3 }))
-    ∷ whose "batch 0 0" (some (record { group = 0; replica = 0 }))
-    ∷ whose "batch 007 18446744073709551615" (some (record { group = 7; replica = u64_max }))
-    ∷ whose "batch 1 18446744073709551616" none
-    ∷ whose "batch 18446744073709551616 1" none
-    ∷ whose "batch 1" none
-    ∷ whose "batch 1 " none
-    ∷ whose "batch 1 2 3" none
-    ∷ whose "batch  2" none
-    ∷ whose "batch 1 -" none
-    ∷ whose "Batch 1 2" none
-    ∷ whose "finish 1 2" none
+    finishes "finish 0" (Some 0)
+    ∷ finishes "finish 1" (Some 1)
+    ∷ finishes "finish 2" None
+    ∷ finishes "finish 01" None
+    ∷ finishes "finish 00" None
+    ∷ finishes "finish " None
+    ∷ finishes "finish" None
+    ∷ finishes "finish  1" None
+    ∷ finishes "finish 1 " None
+    ∷ finishes " finish 1" None
+    ∷ finishes "Finish 1" None
+    ∷ finishes "finisk 1" None
+    ∷ finishes "finishs 1" None
+    ∷ finishes "" None
+    ∷ whose "batch 2 3" (Some (record { group = 2; replica = 3 }))
+    ∷ whose "batch 0 0" (Some (record { group = 0; replica = 0 }))
+    ∷ whose "batch 007 18446744073709551615" (Some (record { group = 7; replica = u64_max }))
+    ∷ whose "batch 1 18446744073709551616" None
+    ∷ whose "batch 18446744073709551616 1" None
+    ∷ whose "batch 1" None
+    ∷ whose "batch 1 " None
+    ∷ whose "batch 1 2 3" None
+    ∷ whose "batch  2" None
+    ∷ whose "batch 1 -" None
+    ∷ whose "Batch 1 2" None
+    ∷ whose "finish 1 2" None
     ∷ []
 
 each_head : T (every (λ b. b) heads)
@@ -105,10 +104,10 @@ commands : List (List ℕ)
 commands = (65 ∷ []) ∷ [] ∷ []
 
 says : String → Said → Bool
-says s a = says_this (line_says commands (bytes s)) (some a)
+says s a = says_this (line_says commands (bytes s)) (Some a)
 
 unread : String → Bool
-unread s = says_this (line_says commands (bytes s)) none
+unread s = says_this (line_says commands (bytes s)) None
 
 e : ℕ → ℕ → Payload → Said
 e index term p = entry (record { index = index; term = term; payload = p })
@@ -145,9 +144,9 @@ lines =
     ∷ says "E 3 4 P 5 6" (e 3 4 (configuration promoteLearner 5 6))
     ∷ says "E 3 4 R 5 6" (e 3 4 (configuration removeReplica 5 6))
     ∷ says "E 0 18446744073709551615 R 0 0" (e 0 u64_max (configuration removeReplica 0 0))
-    ∷ says "H 3 - 5" (h 3 none 5)
-    ∷ says "H 3 4 5" (h 3 (some 4) 5)
-    ∷ says "H 3 0 5" (h 3 (some 0) 5)
+    ∷ says "H 3 - 5" (h 3 None 5)
+    ∷ says "H 3 4 5" (h 3 (Some 4) 5)
+    ∷ says "H 3 0 5" (h 3 (Some 0) 5)
     ∷ says "show 0" (show 0)
     ∷ says "show 18446744073709551615" (show u64_max)
     ∷ says "P 1 2 3 4 5 6 7 8 9 0123456789abcdefFEDCBA98765432100000000000000001aaaaaaaaaaaaaaaa" p
@@ -207,19 +206,19 @@ a_pointer =
     })
 
 an_entry : ℕ → BatchLine
-an_entry n = L.Entry (record { index = n; term = 2; kind = 0; first = 65; second = 3 })
+an_entry n = L.Entry (record { index = n; term = 2; payload = Y.Normal 65 3 })
 
 a_hard_state : BatchLine
-a_hard_state = L.HardState (record { current_term = 2; voted_for = O.None; commit = 5 })
+a_hard_state = L.HardState (record { current_term = 2; voted_for = None; commit = 5 })
 
 -- all lines are taken, in this order
 takes : Given → List BatchLine → Bool
 takes g [] = true
-takes g (l ∷ ls) = (added g l).taken && takes (added g l).given ls
+takes g (l ∷ ls) = is_some (added g l) && takes (unwrap_or (added g l) g) ls
 
 after : Given → List BatchLine → Given
 after g [] = g
-after g (l ∷ ls) = after (added g l).given ls
+after g (l ∷ ls) = after (unwrap_or (added g l) g) ls
 
 entries : ℕ → List BatchLine
 entries n = replicate n (an_entry 9)
@@ -231,7 +230,6 @@ orders =
     ∷ takes no_batch (L.Show 1 ∷ L.Show 1 ∷ [])
     ∷ takes no_batch (entries 64)
     ∷ not (takes no_batch (entries 65))
-    ∷ not (takes no_batch (L.None ∷ []))
     ∷ not (takes no_batch (a_pointer ∷ a_pointer ∷ []))
     ∷ not (takes no_batch (an_entry 6 ∷ a_pointer ∷ []))
     ∷ not (takes no_batch (a_hard_state ∷ a_pointer ∷ []))

@@ -1,20 +1,15 @@
--- A command line: what one byte writes, and the walk along the line.
+-- A command line: what one byte writes, and a line in two pieces.
 -- Assumes nothing.
 use mathlib.Core.Path.{◌≡◌, refl, ◌∙◌}
 use mathlib.Core.Bool.{Bool, true, false, not, ◌&&◌}
 use mathlib.Core.List.{List, [], ◌∷◌, ◌++◌}
-use Prim.Native.Nat.{ℕ, suc, ◌+◌, ◌*◌, ◌/◌, ◌%◌, ◌<◌, ◌≤◌}
-use native.Mathlib.Nat.{add-zero}
-use native.Mathlib.Numerals.{add-one}
-use native.Mathlib.Omega.{arith}
+use Prim.Native.Nat.{ℕ, ◌+◌, ◌*◌, ◌/◌, ◌%◌, ◌<◌, ◌≤◌}
 use borrow.Author.Tests.{eq-eqb, ne_eqb, lt-ltb, le-ltb, le-leb, lt-leb}
-use lib.ListN.{length, get_or, set, drop, drop_of_length-le, length-set}
-use lib.Seq.{drop-cons}
+use lib.ListN.{length, set, length-set}
 use Rattle.std.specs.Prelude.{if◌then◌else◌}
 use Rattle.definition.specs.Table.{◌=?◌, ◌<?◌, ◌≤?◌}
 use Rattle.text.specs.Text.{hex_digit, is_hex}
-use Rattle.text.specs.Line.{piece, has_newline}
-use Rattle.text.specs.Command.{pushed_command, pushed_out, fed_command, fed_out, read_command}
+use Rattle.text.specs.Command.{pushed_command, pushed_out, fed_command, fed_out}
 use Rattle.text.specs.declared.command.Command.{Command}
 
 module _ (out : List ℕ) (at : ℕ) (c : Command) (b : ℕ) where
@@ -38,45 +33,6 @@ module _ (out : List ℕ) (at : ℕ) (c : Command) (b : ℕ) where
       → set out (at + c.digits / 2) (c.half % 16 * 16 + hex_digit b) ≡ pushed_out out at c b
   unfolding pushed_out
   second_digit h n l r = rw (le-leb (hex_digit b) 15 h, ne_eqb (c.digits % 2) 0 n, lt-ltb c.digits 130 l, le-leb (at + 65) (length out) r)
-
-pub piece_newline : (s : List ℕ) (i : ℕ) → i < length s → get_or s i 0 ≡ 10 → piece (drop i s) ≡ []
-unfolding piece
-piece_newline s i h e = rw (drop-cons s i 0 h, eq-eqb (get_or s i 0) 10 e)
-
-pub piece_end : (s : List ℕ) (i : ℕ) → length s ≤ i → piece (drop i s) ≡ []
-unfolding piece
-piece_end s i h = rw (drop_of_length-le s h)
-
-pub piece_on : (s : List ℕ) (i : ℕ) → i < length s → (get_or s i 0 ≡ 10 → ⊥) → piece (drop i s) ≡ get_or s i 0 ∷ piece (drop (i + 1) s)
-unfolding piece
-piece_on s i h n = rw (drop-cons s i 0 h, ne_eqb (get_or s i 0) 10 n, add-one)
-
--- what is read
-pub command_newline : (c : Command) (s : List ℕ) (i : ℕ) → i < length s → get_or s i 0 ≡ 10
-    → read_command c i (drop i s) ≡ record { command = c; next = i + 1; ended = true }
-unfolding fed_command piece has_newline
-command_newline c s i h e = rw (drop-cons s i 0 h, eq-eqb (get_or s i 0) 10 e, add-zero)
-
-pub command_end : (c : Command) (s : List ℕ) (i : ℕ) → length s ≤ i → read_command c i (drop i s) ≡ record { command = c; next = i; ended = false }
-unfolding fed_command piece has_newline
-command_end c s i h = rw (drop_of_length-le s h, add-zero, add-zero)
-
-pub command_on : (c : Command) (s : List ℕ) (i : ℕ) → i < length s → (get_or s i 0 ≡ 10 → ⊥)
-    → read_command c i (drop i s) ≡ read_command (pushed_command c (get_or s i 0)) (i + 1) (drop (i + 1) s)
-unfolding fed_command piece has_newline
-command_on c s i h n =
-    let p : i + suc (length (piece (drop (suc i) s))) ≡ i + 1 + length (piece (drop (suc i) s)) = omega arith in
-    rw (drop-cons s i 0 h, ne_eqb (get_or s i 0) 10 n, p, add-one)
-
--- what is written
-pub out_stop : (out : List ℕ) (at : ℕ) (c : Command) (t : List ℕ) → t ≡ [] → fed_out out at c t ≡ out
-unfolding fed_out
-out_stop out at c t e = rw e
-
-pub out_on : (out : List ℕ) (at : ℕ) (c : Command) (t : List ℕ) (b : ℕ) (u : List ℕ) → t ≡ b ∷ u
-    → fed_out out at c t ≡ fed_out (pushed_out out at c b) at (pushed_command c b) u
-unfolding fed_out
-out_on out at c t b u e = rw e
 
 -- a command line in two pieces is the whole
 pub command_pieces : (c : Command) (a b : List ℕ) → fed_command (fed_command c a) b ≡ fed_command c (a ++ b)

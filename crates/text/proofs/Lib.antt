@@ -5,7 +5,6 @@ pub mod Hex
 pub mod Lines
 pub mod Numbers
 pub mod Records
-pub mod Scan
 pub mod Sums
 pub mod Whole
 pub mod Words

@@ -3,29 +3,30 @@
 use mathlib.Core.Path.{◌≡◌, refl, sym, ap, ◌∙◌}
 use mathlib.Core.Bool.{Bool, true, false, ◌&&◌, ◌||◌, and-false}
 use mathlib.Core.List.{List, [], ◌∷◌, ◌++◌}
-use mathlib.Core.Option.{Option, none, some}
 use Prim.Native.Nat.{ℕ, ◌+◌, ◌<◌, ◌≤◌}
 use native.Mathlib.Omega.{arith}
 use borrow.Author.Tests.{eq-eqb, ne_eqb, eqb-true, eqb-false, ltb-true, ltb-false}
-use lib.ListN.{length, length-append}
+use lib.ListN.{length, take, length-append}
 use lib.Seq.{get_or-append_seam}
-use Rattle.std.specs.Prelude.{if◌then◌else◌}
-use Rattle.definition.specs.Table.{◌=?◌, ◌<?◌, u64_max, every}
+use Rattle.std.specs.Prelude.{if◌then◌else◌, Option, None, Some, option_map, option_and_then}
+use Rattle.definition.specs.Table.{◌=?◌, ◌<?◌, u64_max, is_some, or_zero}
 use Rattle.definition.specs.Records as D
-use Rattle.codec.specs.declared.Vote.TheVariants as O
+use Rattle.ids.specs.declared.RaftReplicaIdentity.{RaftReplicaIdentity}
+use Rattle.codec.specs.declared.Checksum.{Checksum}
+use Rattle.codec.specs.declared.ConfChangeKind.{ConfChangeKind}
+use Rattle.codec.specs.declared.DurableRaftEntryPayload.{DurableRaftEntryPayload}
+use Rattle.codec.specs.declared.RaftWalRecord.TheVariants as W
 use Rattle.codec.specs.declared.WalRecord.{WalRecord}
-use Rattle.codec.specs.Records.{record_of, vote_of, payload_of}
-use Rattle.text.specs.Text.{u32_max, is_number, value, is_hex, is_checksum, nth, is_letter, is_owned, version, foreign_record, vote, hard_state_record, command, change, changed, payload, entry_of, entry_record, pointer_record, first, record_fields, record_line}
+use Rattle.codec.specs.Records.{change_of, checksum_of}
+use Rattle.text.specs.Text.{u32_max, number, is_number, value, is_checksum, nth, is_letter, is_owned, version, foreign_record, hard_state_record, command, change, changed, payload, entry_of, entry_record, pointer_record, first, record_fields, record_line}
+use Rattle.text.specs.Field.{number_on, version_on, letter_field, vote_from, checksum_on}
 use Rattle.text.specs.Line.{blank_line, fed}
-use Rattle.text.specs.Record.{field_at, number_field, version_field, letter_field, sum_field, version_of, owned_line, foreign_line, foreign_record_of, vote_on, hard_state_line, hard_state_record_of, command_at, change_on, payload_on, entry_line, entry_record_of, entry_with, pointer_line, pointer_record_of, line_record, maybe_record_of, commands_in, Lent}
+use Rattle.text.specs.Record.{field_at, identity_from, hard_state_from, pointer_from, pointer_on, command_at, change_on, configuration_from, payload_on, foreign_from, foreign_on, hard_state_record_from, hard_state_on, pointer_record_on, entry_from, entry_on, raft_from, line_record, maybe_record_of, at_most256, commands_in, Lent}
 use Rattle.text.specs.declared.field.Field.{Field}
 use Rattle.text.specs.declared.line.Line.{Line}
-use Rattle.text.specs.declared.record.MaybeRecord.{MaybeRecord}
-use Rattle.text.specs.declared.record.MaybeRecord.TheVariants as M
-use Rattle.text.specs.declared.record.MaybePayload.{MaybePayload}
-use Rattle.text.specs.declared.record.MaybePayload.TheVariants as Q
-use Rattle.text.proofs.Numbers.{field_of, number_is, value_is, version_is, version_value, letter_is}
-use Rattle.text.proofs.Sums.{sum_of, sum_is, sum_value}
+use Rattle.text.proofs.Numbers.{field_of, number_is, version_is}
+use Rattle.text.proofs.Words.{letter_is}
+use Rattle.text.proofs.Sums.{sum_of, sum_is, checksum_from}
 use Rattle.text.proofs.Whole.{Holds, ended, nth_other}
 use Rattle.text.proofs.Given.{maybe_payload_of, command_is}
 
@@ -67,55 +68,155 @@ count_is l done f h n i = go (length done =? n) refl
         other true r q = let c = h.many (ltb-true 12 (length done) r) in omega arith
         other false r q = let c = h.few (ltb-false 12 (length done) r) in eqb-false (length done) n p (omega arith)
 
-module _ {l : Line} {fs : List (List ℕ)} {n : ℕ} (r : Reads l fs n) where
-  pub num : (k : ℕ) → k < n → number_field (field_at l k) ≡ is_number u64_max (nth k fs)
-  num k h = ap (λ (g : Field). number_field g) (r.at k h) ∙ number_is (nth k fs)
+-- a line of so many fields, and of another number of fields
+module _ (l : Line) (done : List (List ℕ)) (f : List ℕ) (h : Holds l done f) (n : ℕ) where
+  pub so_many : length done ≡ n → (length (done ++ (f ∷ [])) =? n + 1) ≡ true
+  so_many e = let m = length-append done (f ∷ []) in eq-eqb (length (done ++ (f ∷ []))) (n + 1) (omega arith)
 
-  pub val : (k : ℕ) → k < n → (field_at l k).value ≡ value u64_max (nth k fs)
-  val k h = ap (λ (g : Field). g.value) (r.at k h) ∙ value_is (nth k fs)
+  pub other : (length done =? n) ≡ false → (length (done ++ (f ∷ [])) =? n + 1) ≡ false
+  other p =
+      let m : length (done ++ (f ∷ [])) ≡ length done + 1 = length-append done (f ∷ []) in
+      ne_eqb (length (done ++ (f ∷ []))) (n + 1) (λ q. eqb-false (length done) n p (omega arith))
+
+module _ {l : Line} {fs : List (List ℕ)} {n : ℕ} (r : Reads l fs n) where
+  pub num : (k : ℕ) → k < n → number_on (field_at l k) ≡ number u64_max (nth k fs)
+  num k h = ap (λ (g : Field). number_on g) (r.at k h) ∙ number_is (nth k fs)
+
+  pub ver : (k : ℕ) → k < n → version_on (field_at l k) ≡ number u32_max (nth k fs)
+  ver k h = ap (λ (g : Field). version_on g) (r.at k h) ∙ version_is (nth k fs)
 
   pub letter : (k b : ℕ) → k < n → letter_field (field_at l k) b ≡ is_letter (nth k fs) b
   letter k b h = ap (λ (g : Field). letter_field g b) (r.at k h) ∙ letter_is (nth k fs) b
 
-  pub num_last : number_field l.field ≡ is_number u64_max (nth n fs)
-  num_last = ap (λ (g : Field). number_field g) r.last ∙ number_is (nth n fs)
+  pub num_last : number_on l.field ≡ number u64_max (nth n fs)
+  num_last = ap (λ (g : Field). number_on g) r.last ∙ number_is (nth n fs)
 
-  pub val_last : l.field.value ≡ value u64_max (nth n fs)
-  val_last = ap (λ (g : Field). g.value) r.last ∙ value_is (nth n fs)
+  pub checksum_last : 10 ≤ n → checksum_on l.sum ≡ (if is_checksum (nth n fs) then Some (checksum_from (nth n fs)) else None)
+  checksum_last h = ap checksum_on (r.sum h) ∙ sum_is (nth n fs)
 
-  ver : 2 < n → version_field (field_at l 2) ≡ is_number u32_max (nth 2 fs)
-  ver h = ap (λ (g : Field). version_field g) (r.at 2 h) ∙ version_is (nth 2 fs)
+-- ---- a form by what its fields say
 
-  ver_val : 2 < n → version_of (field_at l 2) ≡ version fs
-  ver_val h = ap (λ (g : Field). version_of g) (r.at 2 h) ∙ version_value (nth 2 fs)
+-- a number, 0 where it is none
+abbrev pub of : Option ℕ → ℕ
+of o = or_zero (λ n. n) o
 
-  own : 4 < n → owned_line l ≡ is_owned fs
-  unfolding owned_line
-  own h i = num 1 (omega arith) i && ver (omega arith) i && num 3 (omega arith) i && num 4 h i
+foreign_said : (x : Bool) (o : Option ℕ) (lent : List ℕ)
+    → maybe_record_of (if x then foreign_from o else None) lent ≡ (if x && is_some o then Some (record { lsn = of o; body = D.foreign }) else None)
+foreign_said false o lent = refl
+foreign_said true None lent = refl
+foreign_said true (Some n) lent = refl
 
--- ---- each form by itself
+-- the record of a replica: LSN, group, replica and kind
+abbrev said : Option ℕ → Option ℕ → Option ℕ → D.Kind → D.Record
+said a g r k = record { lsn = of a; body = D.raft (record { group = of g; replica = of r }) k }
 
-abbrev pub foreign_of : Line → MaybeRecord
-foreign_of l = if foreign_line l then M.Some (foreign_record_of l) else M.None
+hard_state_said : (x : Bool) (a v g r t : Option ℕ) (d : Bool) (o c : Option ℕ) (lent : List ℕ)
+    → maybe_record_of (if x then raft_from a (option_map W.HardState (hard_state_record_from v (identity_from g r) (hard_state_from t (vote_from d o) c))) else None) lent
+    ≡ (if x && (is_some a && is_some v && is_some g && is_some r) && is_some t && is_some c && (d || is_some o)
+    then Some (said a g r (D.hard_state (of v) (record { current_term = of t; voted_for = if d then None else Some (of o); commit = of c })))
+    else None)
+hard_state_said false a v g r t d o c lent = refl
+hard_state_said true None v g r t d o c lent = refl
+hard_state_said true (Some a) None g r t d o c lent = refl
+hard_state_said true (Some a) (Some v) None r t d o c lent = refl
+hard_state_said true (Some a) (Some v) (Some g) None t d o c lent = refl
+hard_state_said true (Some a) (Some v) (Some g) (Some r) None d o c lent = refl
+hard_state_said true (Some a) (Some v) (Some g) (Some r) (Some t) true o None lent = refl
+hard_state_said true (Some a) (Some v) (Some g) (Some r) (Some t) true o (Some c) lent = refl
+hard_state_said true (Some a) (Some v) (Some g) (Some r) (Some t) false None None lent = refl
+hard_state_said true (Some a) (Some v) (Some g) (Some r) (Some t) false None (Some c) lent = refl
+hard_state_said true (Some a) (Some v) (Some g) (Some r) (Some t) false (Some o) None lent = refl
+hard_state_said true (Some a) (Some v) (Some g) (Some r) (Some t) false (Some o) (Some c) lent = refl
 
-abbrev pub hard_state_of : Line → MaybeRecord
-hard_state_of l = if hard_state_line l then M.Some (hard_state_record_of l) else M.None
+pointer_said : (x : Bool) (a v g r d i t p z e : Option ℕ) (y : Bool) (s : Checksum) (lent : List ℕ)
+    → maybe_record_of (if x then raft_from a (option_map W.SnapshotPointer (pointer_from v (identity_from g r) d i t p z e (if y then Some s else None))) else None) lent
+    ≡ (if x && (is_some a && is_some v && is_some g && is_some r) && is_some d && is_some i && is_some t && is_some p && is_some z && is_some e && y
+    then Some (said a g r (D.pointer (record {
+      version = of v;
+      snapshot_id = of d;
+      last_included_index = of i;
+      last_included_term = of t;
+      applied_index = of p;
+      size_bytes = of z;
+      rest = of e;
+      checksum = checksum_of s;
+    })))
+    else None)
+pointer_said false a v g r d i t p z e y s lent = refl
+pointer_said true None v g r d i t p z e y s lent = refl
+pointer_said true (Some a) None g r d i t p z e y s lent = refl
+pointer_said true (Some a) (Some v) None r d i t p z e y s lent = refl
+pointer_said true (Some a) (Some v) (Some g) None d i t p z e y s lent = refl
+pointer_said true (Some a) (Some v) (Some g) (Some r) None i t p z e y s lent = refl
+pointer_said true (Some a) (Some v) (Some g) (Some r) (Some d) None t p z e y s lent = refl
+pointer_said true (Some a) (Some v) (Some g) (Some r) (Some d) (Some i) None p z e y s lent = refl
+pointer_said true (Some a) (Some v) (Some g) (Some r) (Some d) (Some i) (Some t) None z e y s lent = refl
+pointer_said true (Some a) (Some v) (Some g) (Some r) (Some d) (Some i) (Some t) (Some p) None e y s lent = refl
+pointer_said true (Some a) (Some v) (Some g) (Some r) (Some d) (Some i) (Some t) (Some p) (Some z) None y s lent = refl
+pointer_said true (Some a) (Some v) (Some g) (Some r) (Some d) (Some i) (Some t) (Some p) (Some z) (Some e) false s lent = refl
+pointer_said true (Some a) (Some v) (Some g) (Some r) (Some d) (Some i) (Some t) (Some p) (Some z) (Some e) true s lent = refl
 
-abbrev pub pointer_on : Line → MaybeRecord
-pointer_on l = if pointer_line l then M.Some (pointer_record_of l) else M.None
+entry_said : (x : Bool) (a v g r i t : Option ℕ) (p : Option DurableRaftEntryPayload) (lent : List ℕ)
+    → maybe_record_of (if x then raft_from a (option_map W.Entry (entry_from v (identity_from g r) i t p)) else None) lent
+    ≡ (if x && (is_some a && is_some v && is_some g && is_some r) && is_some i && is_some t
+    then option_map (λ q. said a g r (D.entry (of v) (record { index = of i; term = of t; payload = q }))) (maybe_payload_of p lent)
+    else None)
+entry_said false a v g r i t p lent = refl
+entry_said true None v g r i t p lent = refl
+entry_said true (Some a) None g r i t p lent = refl
+entry_said true (Some a) (Some v) None r i t p lent = refl
+entry_said true (Some a) (Some v) (Some g) None i t p lent = refl
+entry_said true (Some a) (Some v) (Some g) (Some r) None t p lent = refl
+entry_said true (Some a) (Some v) (Some g) (Some r) (Some i) None p lent = refl
+entry_said true (Some a) (Some v) (Some g) (Some r) (Some i) (Some t) None lent = refl
+entry_said true (Some a) (Some v) (Some g) (Some r) (Some i) (Some t) (Some p) lent = refl
 
-abbrev pub entry_on : Line → ℕ → List ℕ → MaybeRecord
-entry_on l count lens = if entry_line l then entry_with l (payload_on l count lens) else M.None
+-- no payload, no entry
+pub no_entry : (v : Option ℕ) (j : Option RaftReplicaIdentity) (i t : Option ℕ) → entry_from v j i t None ≡ None
+no_entry None j i t = refl
+no_entry (Some v) None i t = refl
+no_entry (Some v) (Some j) None t = refl
+no_entry (Some v) (Some j) (Some i) None = refl
+no_entry (Some v) (Some j) (Some i) (Some t) = refl
 
--- ---- through a test
+-- ---- a payload
 
-if_record : (x : Bool) (r : WalRecord) (lent : List ℕ) → maybe_record_of (if x then M.Some r else M.None) lent ≡ (if x then some (record_of r lent) else none)
-if_record true r lent = refl
-if_record false r lent = refl
+pub command_said : (t : Bool) (o : Option ℕ) (ls lent : List ℕ) (cs : List (List ℕ)) → ((n : ℕ) → maybe_payload_of (command_at n ls) lent ≡ command cs n)
+    → maybe_payload_of (if t then option_and_then (λ n. command_at n ls) o else None) lent ≡ (if t && is_some o then command cs (of o) else None)
+command_said false o ls lent cs e = refl
+command_said true None ls lent cs e = refl
+command_said true (Some n) ls lent cs e = e n
 
-if_none : (x : Bool) → ◌≡◌ {A = Option D.Record} (if x then none else none) none
-if_none true = refl
-if_none false = refl
+pub configuration_said : (c : Option ConfChangeKind) (v r : Option ℕ) (lent : List ℕ)
+    → maybe_payload_of (configuration_from c v r) lent ≡ (if is_some v && is_some r then changed (option_map change_of c) (of v) (of r) else None)
+configuration_said None None r lent = refl
+configuration_said None (Some v) None lent = refl
+configuration_said None (Some v) (Some r) lent = refl
+configuration_said (Some c) None r lent = refl
+configuration_said (Some c) (Some v) None lent = refl
+configuration_said (Some c) (Some v) (Some r) lent = refl
+
+pub change_is : (g : Field) (w : List ℕ) → ((b : ℕ) → letter_field g b ≡ is_letter w b) → option_map change_of (change_on g) ≡ change w
+unfolding change_on
+change_is g w t = go (is_letter w 65) refl (is_letter w 80) refl (is_letter w 82) refl
+  where
+    go : (x : Bool) → is_letter w 65 ≡ x → (y : Bool) → is_letter w 80 ≡ y → (z : Bool) → is_letter w 82 ≡ z → option_map change_of (change_on g) ≡ change w
+    go true a y b z c = rw (t 65, a)
+    go false a true b z c = rw (t 65, a, t 80, b)
+    go false a false b true c = rw (t 65, a, t 80, b, t 82, c)
+    go false a false b false c = rw (t 65, a, t 80, b, t 82, c)
+
+-- ---- letters
+
+-- a field is not two letters
+pub one_letter : (w : List ℕ) (a b : ℕ) → (a ≡ b → ⊥) → is_letter w a ≡ true → is_letter w b ≡ false
+one_letter [] a b n e = refl
+one_letter (x ∷ y ∷ w) a b n e = and-false (x =? b)
+one_letter (x ∷ []) a b n e = go (x =? a) refl e
+  where
+    go : (t : Bool) → (x =? a) ≡ t → (t && true) ≡ true → (x =? b && true) ≡ false
+    go true p q = rw (ne_eqb x b (λ r. n (sym (eqb-true x a p) ∙ r)))
+    go false p q = absurd (let z : ◌≡◌ {A = ℕ} 0 1 = cc in omega arith)
 
 module _ (l : Line) (done : List (List ℕ)) (f : List ℕ) (h : Holds l done f) where
   abbrev all : List (List ℕ)
@@ -123,233 +224,214 @@ module _ (l : Line) (done : List (List ℕ)) (f : List ℕ) (h : Holds l done f)
 
   -- ---- F
 
-  pub foreign_is : (lent : List ℕ) → maybe_record_of (foreign_of l) lent ≡ foreign_record all
-  unfolding foreign_line foreign_record_of
+  abbrev foreign_if : Option WalRecord
+  foreign_if = if letter_field (field_at l 0) 70 then foreign_on l else None
+
+  foreign_is : (lent : List ℕ) → maybe_record_of foreign_if lent ≡ foreign_record all
+  unfolding foreign_on
   foreign_is lent = go (length done =? 1) refl
     where
-      go : (x : Bool) → (length done =? 1) ≡ x → maybe_record_of (foreign_of l) lent ≡ foreign_record all
+      go : (x : Bool) → (length done =? 1) ≡ x → maybe_record_of foreign_if lent ≡ foreign_record all
       go true p =
-          let r = reads l done f h 1 (eqb-true (length done) 1 p) (omega arith) in
-          let c = count_is l done f h 1 (omega arith) in
-          if_record (foreign_line l) (foreign_record_of l) lent
-          ∙ (λ i. if◌then◌else◌ {A = Option D.Record} (c i && letter r 0 70 (omega arith) i && num_last r i) (some (record { lsn = val_last r i; body = D.foreign })) none)
-      go false p =
-          let c = count_is l done f h 1 (omega arith) in
-          let m : length all ≡ length done + 1 = length-append done (f ∷ []) in
-          let n : (length all =? 2) ≡ false = ne_eqb (length all) 2 (λ q. eqb-false (length done) 1 p (omega arith)) in
-          rw (c, n)
+          let e = eqb-true (length done) 1 p in
+          let r = reads l done f h 1 e (omega arith) in
+          let m = so_many l done f h 1 e in
+          let c = count_is l done f h 1 (omega arith) ∙ m in
+          rw (c, m) ((λ i. maybe_record_of (if letter r 0 70 (omega arith) i then foreign_from (num_last r i) else None) lent)
+          ∙ foreign_said (is_letter (nth 0 all) 70) (number u64_max (nth 1 all)) lent)
+      go false p = rw (count_is l done f h 1 (omega arith), other l done f h 1 p) (none (letter_field (field_at l 0) 70))
+        where
+          none : (x : Bool) → maybe_record_of (if x then None else None) lent ≡ None
+          none true = refl
+          none false = refl
 
-  -- a line of another number of fields
-  pub other : (n : ℕ) → (length done =? n) ≡ false → (length all =? n + 1) ≡ false
-  other n p =
-      let m : length all ≡ length done + 1 = length-append done (f ∷ []) in
-      ne_eqb (length all) (n + 1) (λ q. eqb-false (length done) n p (omega arith))
+  no_body : (x : Bool) (lsn : Option ℕ) (lent : List ℕ) → maybe_record_of (if x then raft_from lsn None else None) lent ≡ None
+  no_body true None lent = refl
+  no_body true (Some n) lent = refl
+  no_body false lsn lent = refl
 
   -- ---- H
 
-  pub if_vote : (x : Bool) (v : ℕ) → vote_of (if x then O.None else O.Some (record { 0 = v })) ≡ (if x then none else some v)
-  if_vote true v = refl
-  if_vote false v = refl
+  abbrev hard_state_if : Option WalRecord
+  hard_state_if = if letter_field (field_at l 0) 72 then raft_from (number_on (field_at l 1)) (option_map W.HardState (hard_state_on l)) else None
 
-  pub hard_state_is : (lent : List ℕ) → maybe_record_of (hard_state_of l) lent ≡ hard_state_record all
-  unfolding hard_state_line hard_state_record_of
+  hard_state_is : (lent : List ℕ) → maybe_record_of hard_state_if lent ≡ hard_state_record all
+  unfolding hard_state_on
   hard_state_is lent = go (length done =? 7) refl
     where
-      go : (x : Bool) → (length done =? 7) ≡ x → maybe_record_of (hard_state_of l) lent ≡ hard_state_record all
+      go : (x : Bool) → (length done =? 7) ≡ x → maybe_record_of hard_state_if lent ≡ hard_state_record all
       go true p =
-          let r = reads l done f h 7 (eqb-true (length done) 7 p) (omega arith) in
-          let c = count_is l done f h 7 (omega arith) in
-          let o = own r (omega arith) in
+          let e = eqb-true (length done) 7 p in
+          let r = reads l done f h 7 e (omega arith) in
+          let m = so_many l done f h 7 e in
+          let c = count_is l done f h 7 (omega arith) ∙ m in
+          let t0 = letter r 0 72 (omega arith) in
+          let n1 = num r 1 (omega arith) in
+          let v2 = ver r 2 (omega arith) in
+          let n3 = num r 3 (omega arith) in
+          let n4 = num r 4 (omega arith) in
           let n5 = num r 5 (omega arith) in
-          let n6 = num r 6 (omega arith) in
           let t6 = letter r 6 45 (omega arith) in
-          let v1 = val r 1 (omega arith) in
-          let v3 = val r 3 (omega arith) in
-          let v4 = val r 4 (omega arith) in
-          let v5 = val r 5 (omega arith) in
-          let v6 = val r 6 (omega arith) in
-          let w = ver_val r (omega arith) in
-          let vote-path : vote_of (vote_on (field_at l 6)) ≡ vote (nth 6 all) =
-          if_vote (letter_field (field_at l 6) 45) (field_at l 6).value ∙ (λ i. if◌then◌else◌ {A = Option ℕ} (t6 i) none (some (v6 i))) in
-          if_record (hard_state_line l) (hard_state_record_of l) lent
-          ∙ (λ i. if◌then◌else◌ {A = Option D.Record}
-          (c i && letter r 0 72 (omega arith) i && o i && n5 i && num_last r i && (t6 i || n6 i))
-          (some (record {
-            lsn = v1 i;
-            body = D.raft (record { group = v3 i; replica = v4 i }) (D.hard_state (w i) (record { current_term = v5 i; voted_for = vote-path i; commit = val_last r i }));
-          }))
-          none)
-      go false p = rw (count_is l done f h 7 (omega arith), other 7 p)
+          let n6 = num r 6 (omega arith) in
+          let n7 = num_last r in
+          rw (c, m) ((λ i. maybe_record_of (if t0 i then raft_from (n1 i) (option_map W.HardState (hard_state_record_from (v2 i) (identity_from (n3 i) (n4 i)) (hard_state_from (n5 i) (vote_from (t6 i) (n6 i)) (n7 i)))) else None) lent)
+          ∙ hard_state_said (is_letter (nth 0 all) 72) (number u64_max (nth 1 all)) (number u32_max (nth 2 all)) (number u64_max (nth 3 all)) (number u64_max (nth 4 all)) (number u64_max (nth 5 all)) (is_letter (nth 6 all) 45) (number u64_max (nth 6 all)) (number u64_max (nth 7 all)) lent)
+      go false p = rw (count_is l done f h 7 (omega arith), other l done f h 7 p) (no_body (letter_field (field_at l 0) 72) (number_on (field_at l 1)) lent)
 
   -- ---- P
 
-  pub pointer_is : (lent : List ℕ) → maybe_record_of (pointer_on l) lent ≡ pointer_record all
-  unfolding pointer_line pointer_record_of
+  abbrev pointer_if : Option WalRecord
+  pointer_if = if letter_field (field_at l 0) 80 then raft_from (number_on (field_at l 1)) (option_map W.SnapshotPointer (pointer_record_on l)) else None
+
+  pointer_is : (lent : List ℕ) → maybe_record_of pointer_if lent ≡ pointer_record all
+  unfolding pointer_on
   pointer_is lent = go (length done =? 11) refl
     where
-      go2 : (length done =? 11) ≡ true → (x : Bool) → (length (nth 11 all) =? 64) ≡ x → (y : Bool) → every is_hex (nth 11 all) ≡ y → maybe_record_of (pointer_on l) lent ≡ pointer_record all
-      go2 p true q true s =
-          let r = reads l done f h 11 (eqb-true (length done) 11 p) (omega arith) in
-          let c = count_is l done f h 11 (omega arith) in
-          let o = own r (omega arith) in
-          let u : sum_field l.sum ≡ is_checksum (nth 11 all) = ap sum_field (r.sum (omega arith)) ∙ sum_is (nth 11 all) in
-          let z = r.sum (omega arith) ∙ sum_value (nth 11 all) (eqb-true (length (nth 11 all)) 64 q) s in
-          if_record (pointer_line l) (pointer_record_of l) lent
-          ∙ (λ i. if◌then◌else◌ {A = Option D.Record}
-          (c i
-          && letter r 0 80 (omega arith) i
-          && o i
-          && num r 5 (omega arith) i
-          && num r 6 (omega arith) i
-          && num r 7 (omega arith) i
-          && num r 8 (omega arith) i
-          && num r 9 (omega arith) i
-          && num r 10 (omega arith) i
-          && u i)
-          (some (record {
-            lsn = val r 1 (omega arith) i;
-            body = D.raft (record { group = val r 3 (omega arith) i; replica = val r 4 (omega arith) i }) (D.pointer (record {
-              version = ver_val r (omega arith) i;
-              snapshot_id = val r 5 (omega arith) i;
-              last_included_index = val r 6 (omega arith) i;
-              last_included_term = val r 7 (omega arith) i;
-              applied_index = val r 8 (omega arith) i;
-              size_bytes = val r 9 (omega arith) i;
-              rest = val r 10 (omega arith) i;
-              checksum = record { a = (z i).a; b = (z i).b; c = (z i).c; d = (z i).d };
-            }));
-          }))
-          none)
-      go2 p true q false s = never p (rw (q, s))
-        where
-          never : (length done =? 11) ≡ true → is_checksum (nth 11 all) ≡ false → maybe_record_of (pointer_on l) lent ≡ pointer_record all
-          never p e =
-              let r = reads l done f h 11 (eqb-true (length done) 11 p) (omega arith) in
-              let u : sum_field l.sum ≡ false = ap sum_field (r.sum (omega arith)) ∙ sum_is (nth 11 all) ∙ e in
-              rw (u, e, and-false, and-false)
-      go2 p false q y s =
-          let e : is_checksum (nth 11 all) ≡ false = rw q in
-          let r = reads l done f h 11 (eqb-true (length done) 11 p) (omega arith) in
-          let u : sum_field l.sum ≡ false = ap sum_field (r.sum (omega arith)) ∙ sum_is (nth 11 all) ∙ e in
-          rw (u, e, and-false, and-false)
-
-      go : (x : Bool) → (length done =? 11) ≡ x → maybe_record_of (pointer_on l) lent ≡ pointer_record all
-      go true p = go2 p (length (nth 11 all) =? 64) refl (every is_hex (nth 11 all)) refl
-      go false p = rw (count_is l done f h 11 (omega arith), other 11 p)
-
-  -- ---- E
-
-  pub if_command : (x : Bool) (p : MaybePayload) (lent : List ℕ) → maybe_payload_of (if x then p else Q.None) lent ≡ (if x then maybe_payload_of p lent else none)
-  if_command true p lent = refl
-  if_command false p lent = refl
-
-  pub change_is : (g : Field) (w : List ℕ) → ((b : ℕ) → letter_field g b ≡ is_letter w b) → (v v' r r' : ℕ) → v ≡ v' → r ≡ r' → (lent : List ℕ)
-      → maybe_payload_of (change_on g v r) lent ≡ changed (change w) v' r'
-  unfolding change_on
-  change_is g w t v v' r r' p q lent = go (is_letter w 65) refl (is_letter w 80) refl (is_letter w 82) refl
-    where
-      go : (x : Bool) → is_letter w 65 ≡ x → (y : Bool) → is_letter w 80 ≡ y → (z : Bool) → is_letter w 82 ≡ z → maybe_payload_of (change_on g v r) lent ≡ changed (change w) v' r'
-      go true a y b z c = rw (t 65, a) (λ i. some (D.configuration D.addLearner (p i) (q i)))
-      go false a true b z c = rw (t 65, a, t 80, b) (λ i. some (D.configuration D.promoteLearner (p i) (q i)))
-      go false a false b true c = rw (t 65, a, t 80, b, t 82, c) (λ i. some (D.configuration D.removeReplica (p i) (q i)))
-      go false a false b false c = rw (t 65, a, t 80, b, t 82, c)
-
-  payload_is : (count : ℕ) (lens lent : List ℕ) → Lent lens lent → maybe_payload_of (payload_on l count lens) lent ≡ payload (commands_in count lens lent) all
-  unfolding payload_on
-  payload_is count lens lent g = go (length done =? 8) refl (length done =? 9) refl
-    where
-      go : (x : Bool) → (length done =? 8) ≡ x → (y : Bool) → (length done =? 9) ≡ y
-          → maybe_payload_of (payload_on l count lens) lent ≡ payload (commands_in count lens lent) all
-      go true p y q =
-          let r = reads l done f h 8 (eqb-true (length done) 8 p) (omega arith) in
-          let m : length all ≡ length done + 1 = length-append done (f ∷ []) in
-          let k = eqb-true (length done) 8 p in
-          let c : (l.count =? 8) ≡ true = count_is l done f h 8 (omega arith) ∙ eq-eqb (length all) 9 (omega arith) in
-          let t7 = letter r 7 78 (omega arith) in
-          let v : maybe_payload_of (command_at l.field.value count lens) lent ≡ command (commands_in count lens lent) (value u64_max (nth 8 all)) =
-          ap (λ (n : ℕ). maybe_payload_of (command_at n count lens) lent) (val_last r) ∙ command_is (value u64_max (nth 8 all)) count lens lent g in
-          rw (c, eq-eqb (length all) 9 (omega arith))
-          (if_command (letter_field (field_at l 7) 78 && number_field l.field) (command_at l.field.value count lens) lent
-          ∙ (λ i. if◌then◌else◌ {A = Option D.Payload} (t7 i && num_last r i) (v i) none))
-      go false p true q =
-          let r = reads l done f h 9 (eqb-true (length done) 9 q) (omega arith) in
-          let c = count_is l done f h 9 (omega arith) in
+      go : (x : Bool) → (length done =? 11) ≡ x → maybe_record_of pointer_if lent ≡ pointer_record all
+      go true p =
+          let e = eqb-true (length done) 11 p in
+          let r = reads l done f h 11 e (omega arith) in
+          let m = so_many l done f h 11 e in
+          let c = count_is l done f h 11 (omega arith) ∙ m in
+          let t0 = letter r 0 80 (omega arith) in
+          let n1 = num r 1 (omega arith) in
+          let v2 = ver r 2 (omega arith) in
+          let n3 = num r 3 (omega arith) in
+          let n4 = num r 4 (omega arith) in
+          let n5 = num r 5 (omega arith) in
+          let n6 = num r 6 (omega arith) in
+          let n7 = num r 7 (omega arith) in
           let n8 = num r 8 (omega arith) in
-          let v = change_is (field_at l 7) (nth 7 all) (λ b. letter r 7 b (omega arith)) (field_at l 8).value (value u64_max (nth 8 all)) l.field.value (value u64_max (nth 9 all)) (val r 8 (omega arith)) (val_last r) lent in
-          rw (count_is l done f h 8 (omega arith), other 8 p)
-          (if_command (l.count =? 9 && number_field (field_at l 8) && number_field l.field) (change_on (field_at l 7) (field_at l 8).value l.field.value) lent
-          ∙ (λ i. if◌then◌else◌ {A = Option D.Payload} (c i && n8 i && num_last r i) (v i) none))
-      go false p false q = rw (count_is l done f h 8 (omega arith), other 8 p, count_is l done f h 9 (omega arith), other 9 q)
+          let n9 = num r 9 (omega arith) in
+          let n10 = num r 10 (omega arith) in
+          let s = checksum_last r (omega arith) in
+          rw (c, m) ((λ i. maybe_record_of (if t0 i then raft_from (n1 i) (option_map W.SnapshotPointer (pointer_from (v2 i) (identity_from (n3 i) (n4 i)) (n5 i) (n6 i) (n7 i) (n8 i) (n9 i) (n10 i) (s i))) else None) lent)
+          ∙ pointer_said (is_letter (nth 0 all) 80) (number u64_max (nth 1 all)) (number u32_max (nth 2 all)) (number u64_max (nth 3 all)) (number u64_max (nth 4 all)) (number u64_max (nth 5 all)) (number u64_max (nth 6 all)) (number u64_max (nth 7 all)) (number u64_max (nth 8 all)) (number u64_max (nth 9 all)) (number u64_max (nth 10 all)) (is_checksum (nth 11 all)) (checksum_from (nth 11 all)) lent)
+      go false p = rw (count_is l done f h 11 (omega arith), other l done f h 11 p) (no_body (letter_field (field_at l 0) 80) (number_on (field_at l 1)) lent)
 
-  -- no payload, no record
-  no_entry_lem : (count : ℕ) (lens lent : List ℕ) → Lent lens lent → (length done =? 8) ≡ false → (length done =? 9) ≡ false → (x : Bool)
-      → maybe_record_of (if x then entry_with l (payload_on l count lens) else M.None) lent ≡ none
-  unfolding payload_on
-  no_entry_lem count lens lent g p q true = rw (count_is l done f h 8 (omega arith), other 8 p, count_is l done f h 9 (omega arith), other 9 q)
-  no_entry_lem count lens lent g p q false = refl
+  -- ---- E, with the commands whose lengths are given
 
-  no_record : (commands : List (List ℕ)) → (length done =? 8) ≡ false → (length done =? 9) ≡ false → (x : Bool)
-      → (if x then entry_of all (payload commands all) else none) ≡ none
-  no_record commands p q true = rw (other 8 p, other 9 q)
-  no_record commands p q false = refl
+  module _ (count : ℕ) (lens lent : List ℕ) (g : Lent lens lent) where
+    abbrev given : List ℕ
+    given = take (at_most256 count) lens
 
-  entry_with_lem : {n : ℕ} → Reads l all n → 7 < n → (p : MaybePayload) (lent : List ℕ) → maybe_record_of (entry_with l p) lent ≡ entry_of all (maybe_payload_of p lent)
-  unfolding entry_record_of
-  entry_with_lem r k Q.None lent = refl
-  entry_with_lem r k (Q.Some p) lent =
-      λ i. some (record {
-        lsn = val r 1 (omega arith) i;
-        body = D.raft (record { group = val r 3 (omega arith) i; replica = val r 4 (omega arith) i }) (D.entry (ver_val r (omega arith) i) (record {
-          index = val r 5 (omega arith) i;
-          term = val r 6 (omega arith) i;
-          payload = payload_of p lent;
-        }));
-      })
+    abbrev commands : List (List ℕ)
+    commands = commands_in count lens lent
 
-  if_entry : (x : Bool) (p : MaybePayload) (lent : List ℕ) → maybe_record_of (if x then entry_with l p else M.None) lent ≡ (if x then maybe_record_of (entry_with l p) lent else none)
-  if_entry true p lent = refl
-  if_entry false p lent = refl
+    payload_is : maybe_payload_of (payload_on l 7 given) lent ≡ payload commands all
+    unfolding payload_on
+    payload_is = go (length done =? 8) refl (length done =? 9) refl
+      where
+        go : (x : Bool) → (length done =? 8) ≡ x → (y : Bool) → (length done =? 9) ≡ y → maybe_payload_of (payload_on l 7 given) lent ≡ payload commands all
+        go true p y q =
+            let e = eqb-true (length done) 8 p in
+            let r = reads l done f h 8 e (omega arith) in
+            let m = so_many l done f h 8 e in
+            let c = count_is l done f h 8 (omega arith) ∙ m in
+            let d : (length done =? 9) ≡ false = ne_eqb (length done) 9 (λ k. omega arith) in
+            let t7 = letter r 7 78 (omega arith) in
+            let n8 = num_last r in
+            rw (c, m, count_is l done f h 9 (omega arith), other l done f h 9 d)
+            ((λ i. maybe_payload_of (if t7 i then option_and_then (λ n. command_at n given) (n8 i) else None) lent)
+            ∙ command_said (is_letter (nth 7 all) 78) (number u64_max (nth 8 all)) given lent commands (λ n. command_is n count lens lent g))
+        go false p true q =
+            let e = eqb-true (length done) 9 q in
+            let r = reads l done f h 9 e (omega arith) in
+            let m = so_many l done f h 9 e in
+            let c = count_is l done f h 9 (omega arith) ∙ m in
+            let n8 = num r 8 (omega arith) in
+            let n9 = num_last r in
+            let k = change_is (field_at l 7) (nth 7 all) (λ b. letter r 7 b (omega arith)) in
+            rw (count_is l done f h 8 (omega arith), other l done f h 8 p, c, m)
+            ((λ i. maybe_payload_of (configuration_from (change_on (field_at l 7)) (n8 i) (n9 i)) lent)
+            ∙ configuration_said (change_on (field_at l 7)) (number u64_max (nth 8 all)) (number u64_max (nth 9 all)) lent
+            ∙ rw k)
+        go false p false q = rw (count_is l done f h 8 (omega arith), other l done f h 8 p, count_is l done f h 9 (omega arith), other l done f h 9 q)
 
-  entry_reads : {n : ℕ} → Reads l all n → 7 < n → (count : ℕ) (lens lent : List ℕ) → Lent lens lent
-      → maybe_record_of (entry_on l count lens) lent ≡ entry_record (commands_in count lens lent) all
-  unfolding entry_line
-  entry_reads r k count lens lent g =
-      let v = entry_with_lem r k (payload_on l count lens) lent ∙ ap (λ (o : Option D.Payload). entry_of all o) (payload_is count lens lent g) in
-      if_entry (entry_line l) (payload_on l count lens) lent
-      ∙ (λ i. if◌then◌else◌ {A = Option D.Record} (letter r 0 69 (omega arith) i && own r (omega arith) i && num r 5 (omega arith) i && num r 6 (omega arith) i) (v i) none)
+    abbrev entry_if : Option WalRecord
+    entry_if = if letter_field (field_at l 0) 69 then raft_from (number_on (field_at l 1)) (option_map W.Entry (entry_on l given)) else None
 
-  pub entry_is_lem : (count : ℕ) (lens lent : List ℕ) → Lent lens lent → maybe_record_of (entry_on l count lens) lent ≡ entry_record (commands_in count lens lent) all
-  unfolding entry_line
-  entry_is_lem count lens lent g = go (length done =? 8) refl (length done =? 9) refl
-    where
-      go : (x : Bool) → (length done =? 8) ≡ x → (y : Bool) → (length done =? 9) ≡ y → maybe_record_of (entry_on l count lens) lent ≡ entry_record (commands_in count lens lent) all
-      go true p y q = entry_reads (reads l done f h 8 (eqb-true (length done) 8 p) (omega arith)) (omega arith) count lens lent g
-      go false p true q = entry_reads (reads l done f h 9 (eqb-true (length done) 9 q) (omega arith)) (omega arith) count lens lent g
-      go false p false q =
-          no_entry_lem count lens lent g p q (entry_line l)
-          ∙ sym (no_record (commands_in count lens lent) p q (is_letter (nth 0 all) 69 && is_owned all && is_number u64_max (nth 5 all) && is_number u64_max (nth 6 all)))
+    entry_mapped : (o : Option D.Payload)
+        → option_map (λ q. said (number u64_max (nth 1 all)) (number u64_max (nth 3 all)) (number u64_max (nth 4 all)) (D.entry (version all) (record { index = value u64_max (nth 5 all); term = value u64_max (nth 6 all); payload = q }))) o
+        ≡ entry_of all o
+    entry_mapped None = refl
+    entry_mapped (Some q) = refl
 
-  -- ---- the form that it has
+    entry_reads : {n : ℕ} → Reads l all n → 7 < n → maybe_record_of entry_if lent ≡ entry_record commands all
+    unfolding entry_on
+    entry_reads r k =
+        let t0 = letter r 0 69 (omega arith) in
+        let n1 = num r 1 (omega arith) in
+        let v2 = ver r 2 (omega arith) in
+        let n3 = num r 3 (omega arith) in
+        let n4 = num r 4 (omega arith) in
+        let n5 = num r 5 (omega arith) in
+        let n6 = num r 6 (omega arith) in
+        (λ i. maybe_record_of (if t0 i then raft_from (n1 i) (option_map W.Entry (entry_from (v2 i) (identity_from (n3 i) (n4 i)) (n5 i) (n6 i) (payload_on l 7 given))) else None) lent)
+        ∙ entry_said (is_letter (nth 0 all) 69) (number u64_max (nth 1 all)) (number u32_max (nth 2 all)) (number u64_max (nth 3 all)) (number u64_max (nth 4 all)) (number u64_max (nth 5 all)) (number u64_max (nth 6 all)) (payload_on l 7 given) lent
+        ∙ rw (entry_mapped (maybe_payload_of (payload_on l 7 given) lent), payload_is)
 
-  fields_are : (count : ℕ) (lens lent : List ℕ) → Lent lens lent → maybe_record_of (line_record l count lens) lent ≡ record_fields (commands_in count lens lent) all
-  unfolding line_record record_fields
-  fields_are count lens lent g =
-      go (foreign_line l) (hard_state_line l) (pointer_line l) (entry_line l)
-      ∙ (λ i. first (foreign_is lent i) (first (hard_state_is lent i) (first (pointer_is lent i) (entry_is_lem count lens lent g i))))
-    where
-      go : (x y z w : Bool)
-          → maybe_record_of (if x then M.Some (foreign_record_of l) else (if y then M.Some (hard_state_record_of l) else (if z then M.Some (pointer_record_of l) else (if w then entry_with l (payload_on l count lens) else M.None)))) lent
-          ≡ first (maybe_record_of (if x then M.Some (foreign_record_of l) else M.None) lent)
-          (first (maybe_record_of (if y then M.Some (hard_state_record_of l) else M.None) lent)
-          (first (maybe_record_of (if z then M.Some (pointer_record_of l) else M.None) lent) (maybe_record_of (if w then entry_with l (payload_on l count lens) else M.None) lent)))
-      go true y z w = refl
-      go false true z w = refl
-      go false false true w = refl
-      go false false false w = refl
+    no_payload : (length done =? 8) ≡ false → (length done =? 9) ≡ false → maybe_record_of entry_if lent ≡ None
+    unfolding entry_on payload_on
+    no_payload p q =
+        rw (
+          count_is l done f h 8 (omega arith),
+          other l done f h 8 p,
+          count_is l done f h 9 (omega arith),
+          other l done f h 9 q,
+          no_entry (version_on (field_at l 2)) (identity_from (number_on (field_at l 3)) (number_on (field_at l 4))) (number_on (field_at l 5)) (number_on (field_at l 6)),
+        )
+        (no_body (letter_field (field_at l 0) 69) (number_on (field_at l 1)) lent)
+
+    no_record : (length done =? 8) ≡ false → (length done =? 9) ≡ false → (x : Bool) → (if x then entry_of all (payload commands all) else None) ≡ None
+    no_record p q true = rw (other l done f h 8 p, other l done f h 9 q)
+    no_record p q false = refl
+
+    entry_is : maybe_record_of entry_if lent ≡ entry_record commands all
+    entry_is = go (length done =? 8) refl (length done =? 9) refl
+      where
+        go : (x : Bool) → (length done =? 8) ≡ x → (y : Bool) → (length done =? 9) ≡ y → maybe_record_of entry_if lent ≡ entry_record commands all
+        go true p y q = entry_reads (reads l done f h 8 (eqb-true (length done) 8 p) (omega arith)) (omega arith)
+        go false p true q = entry_reads (reads l done f h 9 (eqb-true (length done) 9 q) (omega arith)) (omega arith)
+        go false p false q =
+            no_payload p q
+            ∙ sym (no_record p q (is_letter (nth 0 all) 69 && is_owned all && is_number u64_max (nth 5 all) && is_number u64_max (nth 6 all)))
+
+    -- ---- the form that it has: one letter at most
+
+    one : (a b : ℕ) → (a ≡ b → ⊥) → letter_field (field_at l 0) a ≡ true → letter_field (field_at l 0) b ≡ false
+    one a b n e =
+        let at : (c : ℕ) → letter_field (field_at l 0) c ≡ is_letter (nth 0 done) c = λ c. ap (λ (k : Field). letter_field k c) (h.at 0 (omega arith)) ∙ letter_is (nth 0 done) c in
+        at b ∙ one_letter (nth 0 done) a b n (sym (at a) ∙ e)
+
+    fields_are : maybe_record_of (line_record l given) lent ≡ record_fields commands all
+    unfolding line_record record_fields
+    fields_are =
+        go (letter_field (field_at l 0) 70) refl (letter_field (field_at l 0) 72) refl (letter_field (field_at l 0) 80) refl (letter_field (field_at l 0) 69) refl
+        ∙ (λ i. first (foreign_is lent i) (first (hard_state_is lent i) (first (pointer_is lent i) (entry_is i))))
+      where
+        alone : (o : Option D.Record) → o ≡ first o None
+        alone None = refl
+        alone (Some r) = refl
+
+        go : (x : Bool) → letter_field (field_at l 0) 70 ≡ x → (y : Bool) → letter_field (field_at l 0) 72 ≡ y → (z : Bool) → letter_field (field_at l 0) 80 ≡ z
+            → (w : Bool) → letter_field (field_at l 0) 69 ≡ w
+            → maybe_record_of (line_record l given) lent
+            ≡ first (maybe_record_of foreign_if lent) (first (maybe_record_of hard_state_if lent) (first (maybe_record_of pointer_if lent) (maybe_record_of entry_if lent)))
+        go true a y b z c w d =
+            rw (a, one 70 72 (λ e. omega arith) a, one 70 80 (λ e. omega arith) a, one 70 69 (λ e. omega arith) a) (alone (maybe_record_of (foreign_on l) lent))
+        go false a true b z c w d =
+            rw (a, b, one 72 80 (λ e. omega arith) b, one 72 69 (λ e. omega arith) b)
+            (alone (maybe_record_of (raft_from (number_on (field_at l 1)) (option_map W.HardState (hard_state_on l))) lent))
+        go false a false b true c w d =
+            rw (a, b, c, one 80 69 (λ e. omega arith) c)
+            (alone (maybe_record_of (raft_from (number_on (field_at l 1)) (option_map W.SnapshotPointer (pointer_record_on l))) lent))
+        go false a false b false c true d = rw (a, b, c, d)
+        go false a false b false c false d = rw (a, b, c, d) (no_body true (number_on (field_at l 1)) lent)
 
 -- THE LAW: a whole line, in pieces of any size, says its record, with the commands that stand in the lent bytes.
 pub record_is : (s : List ℕ) (count : ℕ) (lens lent : List ℕ) → Lent lens lent
-    → maybe_record_of (line_record (fed blank_line s) count lens) lent ≡ record_line (commands_in count lens lent) s
+    → maybe_record_of (line_record (fed blank_line s) (take (at_most256 count) lens)) lent ≡ record_line (commands_in count lens lent) s
 unfolding record_line
 record_is s count lens lent g =
     let e = ended s in

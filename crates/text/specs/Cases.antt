@@ -1,9 +1,8 @@
 -- Computed tests of the lines: document 01's example, and each edge. Each is one declaration over a list.
 -- Assumes nothing.
-use Rattle.std.specs.Prelude.{ℕ, Bool, true, false, ◌&&◌, List, [], ◌∷◌, ◌++◌, replicate, T}
+use Rattle.std.specs.Prelude.{ℕ, Bool, true, false, ◌&&◌, List, [], ◌∷◌, ◌++◌, replicate, T, Option, None, Some}
 use Prim.Native.Char.{code}
 use Prim.Native.String.{String, [] as empty, ◌∷◌ as ◌then◌}
-use Rattle.std.proofs.Math.Option.{Option, none, some}
 use Rattle.definition.specs.Table.{◌=?◌, every, u64_max, same_bytes}
 use Rattle.definition.specs.Records.{same, addLearner, promoteLearner, removeReplica, Payload, normal, inside, configuration, same_payload, Checksum, same_pointer, Kind, entry, hard_state, pointer, Body, foreign, raft, Record}
 use Rattle.text.specs.Text.{numeral_from, number, u32_max, hex_digit, hex_from, hex_bytes, command_line, fields_from, record_fields, record_line, header_line, commands_word, records_word}
@@ -16,10 +15,10 @@ bytes (c then s) = code c ∷ bytes s
 -- ---- equality
 
 same_option : {A : Type 0} → (A → A → Bool) → Option A → Option A → Bool
-same_option p none none = true
-same_option p none (some b) = false
-same_option p (some a) none = false
-same_option p (some a) (some b) = p a b
+same_option p None None = true
+same_option p None (Some b) = false
+same_option p (Some a) None = false
+same_option p (Some a) (Some b) = p a b
 
 same_number : ℕ → ℕ → Bool
 same_number a b = a =? b
@@ -47,10 +46,10 @@ same_record r s = r.lsn =? s.lsn && same_body r.body s.body
 -- ---- numbers
 
 reads : ℕ → ℕ → List ℕ → Bool
-reads most n s = same_option same_number (number most s) (some n)
+reads most n s = same_option same_number (number most s) (Some n)
 
 malformed : ℕ → List ℕ → Bool
-malformed most s = same_option same_number (number most s) none
+malformed most s = same_option same_number (number most s) None
 
 zeros : List ℕ
 zeros = replicate 300 48
@@ -97,10 +96,10 @@ each_number = tt
 -- ---- command lines
 
 holds : List ℕ → List ℕ → Bool
-holds s l = same_option same_bytes (command_line s) (some l)
+holds s l = same_option same_bytes (command_line s) (Some l)
 
 none_there : List ℕ → Bool
-none_there s = same_option same_bytes (command_line s) none
+none_there s = same_option same_bytes (command_line s) None
 
 command_lines : List Bool
 command_lines =
@@ -137,10 +136,10 @@ each_command = tt
 -- ---- headers
 
 counts : List ℕ → ℕ → ℕ → List ℕ → Bool
-counts word most n s = same_option same_number (header_line word most s) (some n)
+counts word most n s = same_option same_number (header_line word most s) (Some n)
 
 no_header : List ℕ → ℕ → List ℕ → Bool
-no_header word most s = same_option same_number (header_line word most s) none
+no_header word most s = same_option same_number (header_line word most s) None
 
 headers : List Bool
 headers =
@@ -178,10 +177,10 @@ commands : List (List ℕ)
 commands = (65 ∷ []) ∷ [] ∷ []
 
 says : String → Record → Bool
-says s r = same_option same_record (record_line commands (bytes s)) (some r)
+says s r = same_option same_record (record_line commands (bytes s)) (Some r)
 
 no_record : List ℕ → Bool
-no_record s = same_option same_record (record_line commands s) none
+no_record s = same_option same_record (record_line commands s) None
 
 of : ℕ → ℕ → ℕ → Kind → Record
 of lsn group replica k = record { lsn = lsn; body = raft (record { group = group; replica = replica }) k }
@@ -201,14 +200,14 @@ records =
     -- document 01's example
     says "E 5 1 1 1 1 1 N 1" (of 5 1 1 (e 1 1 1 (normal (inside (65 ∷ [])))))
     ∷ says "E 6 1 1 1 2 2 N 1" (of 6 1 1 (e 1 2 2 (normal (inside (65 ∷ [])))))
-    ∷ says "H 7 1 1 1 1 - 2" (of 7 1 1 (h 1 1 none 2))
+    ∷ says "H 7 1 1 1 1 - 2" (of 7 1 1 (h 1 1 None 2))
     -- each field has its own place
     ∷ says "E 1 2 3 4 5 6 N 2" (of 1 3 4 (e 2 5 6 (normal (inside []))))
     ∷ says "E 1 2 3 4 5 6 A 7 8" (of 1 3 4 (e 2 5 6 (configuration addLearner 7 8)))
     ∷ says "E 1 2 3 4 5 6 P 7 8" (of 1 3 4 (e 2 5 6 (configuration promoteLearner 7 8)))
     ∷ says "E 1 2 3 4 5 6 R 7 8" (of 1 3 4 (e 2 5 6 (configuration removeReplica 7 8)))
-    ∷ says "H 1 2 3 4 5 6 7" (of 1 3 4 (h 2 5 (some 6) 7))
-    ∷ says "H 1 2 3 4 5 0 7" (of 1 3 4 (h 2 5 (some 0) 7))
+    ∷ says "H 1 2 3 4 5 6 7" (of 1 3 4 (h 2 5 (Some 6) 7))
+    ∷ says "H 1 2 3 4 5 0 7" (of 1 3 4 (h 2 5 (Some 0) 7))
     ∷ says "F 9" (record { lsn = 9; body = foreign })
     ∷ says "F 0" (record { lsn = 0; body = foreign })
     ∷ says "F 18446744073709551615" (record { lsn = u64_max; body = foreign })
@@ -254,7 +253,7 @@ records =
     ∷ "FF 1"
     ∷ "h 7 1 1 1 1 - 2"
     ∷ "H 7 1 1 1 1 -- 2"
-    ∷ "H 7 1 1 1 1 none 2"
+    ∷ "H 7 1 1 1 1 None 2"
     ∷ "H 7 1 1 1 - 1 2"
     -- a field too many or missing, an empty one, a space at an end
     ∷ ""

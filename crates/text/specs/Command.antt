@@ -1,15 +1,10 @@
 -- What the code keeps of a command line, and what it writes: each pair of hex digits is a byte, at most 65 of them from `at` on.
 -- Assumes nothing.
-use Rattle.std.specs.Prelude.{ℕ, ◌+◌, ◌*◌, ◌/◌, ◌%◌, true, false, not, ◌&&◌, List, [], ◌∷◌, length, set, if◌then◌else◌}
-use Rattle.std.proofs.Math.Option.{Option, none, some}
+use Rattle.std.specs.Prelude.{ℕ, ◌+◌, ◌*◌, ◌/◌, ◌%◌, true, false, not, ◌&&◌, List, [], ◌∷◌, length, set, if◌then◌else◌, Option, None, Some}
 use Rattle.definition.specs.Table.{◌=?◌, ◌<?◌, ◌≤?◌}
 use Rattle.text.specs.Text.{hex_digit, is_hex}
 use Rattle.text.specs.Field.{counted}
-use Rattle.text.specs.Line.{piece, has_newline}
 use Rattle.text.specs.declared.command.Command.{Command}
-use Rattle.text.specs.declared.command.ReadCommand.{ReadCommand}
-use Rattle.text.specs.declared.command.MaybeLen.{MaybeLen}
-use Rattle.text.specs.declared.command.MaybeLen.TheVariants as N
 
 -- no byte yet
 abbrev pub blank_command : Command
@@ -38,19 +33,6 @@ unfoldable pub fed_out : List ℕ → ℕ → Command → List ℕ → List ℕ
 fed_out out at c [] = out
 fed_out out at c (b ∷ s) = fed_out (pushed_out out at c b) at (pushed_command c b) s
 
--- up to the newline or the end, and the place behind it
-abbrev pub read_command : Command → ℕ → List ℕ → ReadCommand
-read_command c from s =
-    record {
-      command = fed_command c (piece s);
-      next = from + length (piece s) + (if has_newline s then 1 else 0);
-      ended = has_newline s;
-    }
-
 -- the bytes of a whole line, where it is a command
-unfoldable pub len_of : Command → MaybeLen
-len_of c = if c.hex && c.digits % 2 =? 0 && c.digits ≤? 130 then N.Some (c.digits / 2) else N.None
-
-abbrev pub maybe_len_of : MaybeLen → Option ℕ
-maybe_len_of N.None = none
-maybe_len_of (N.Some n) = some n
+unfoldable pub len_of : Command → Option ℕ
+len_of c = if c.hex && c.digits % 2 =? 0 && c.digits ≤? 130 then Some (c.digits / 2) else None

@@ -1,12 +1,9 @@
 -- What the code keeps of a line: what it is so far, and what reading on makes of it.
 -- Assumes nothing.
-use Rattle.std.specs.Prelude.{ℕ, ◌+◌, Bool, true, false, List, [], ◌∷◌, length, replicate, set, if◌then◌else◌}
+use Rattle.std.specs.Prelude.{ℕ, ◌+◌, Bool, true, false, List, [], ◌∷◌, replicate, set, if◌then◌else◌, Option, option_map, position}
 use Rattle.definition.specs.Table.{◌=?◌, ◌<?◌}
 use Rattle.text.specs.Field.{blank_field, blank_sum, counted, pushed_field, pushed_sum}
-use Rattle.text.specs.declared.field.Field.{Field}
-use Rattle.text.specs.declared.field.Sum.{Sum}
 use Rattle.text.specs.declared.line.Line.{Line}
-use Rattle.text.specs.declared.line.ReadLine.{ReadLine}
 
 -- no byte yet
 abbrev pub blank_line : Line
@@ -49,17 +46,9 @@ unfoldable pub has_newline : List ℕ → Bool
 has_newline [] = false
 has_newline (b ∷ s) = if b =? 10 then true else has_newline s
 
-abbrev pub line_of : List Field → ℕ → Field → Sum → Line
-line_of fields count field sum = record { fields = fields; count = count; field = field; sum = sum }
+-- where the first newline stands, and how many bytes a line takes with it
+abbrev pub newline_at : List ℕ → Option ℕ
+newline_at s = position (λ b. b =? 10) s
 
-abbrev pub stopped_at : Line → ℕ → Bool → ReadLine
-stopped_at l next ended = record { line = l; next = next; ended = ended }
-
--- the line with what stands before the newline, and the place behind it
-abbrev pub read_line : Line → ℕ → List ℕ → ReadLine
-read_line l from s =
-    record {
-      line = fed l (piece s);
-      next = from + length (piece s) + (if has_newline s then 1 else 0);
-      ended = has_newline s;
-    }
+abbrev pub taken : List ℕ → Option ℕ
+taken s = option_map (λ i. i + 1) (newline_at s)

@@ -1,198 +1,152 @@
 -- What the code reads off a line: a record, or a header's number. Fields 0 to count - 1 are closed, the last one is open.
 -- Assumes nothing.
-use Rattle.std.specs.Prelude.{ℕ, ◌+◌, ◌-◌, ◌*◌, ◌≤◌, ◌≡◌, Bool, not, ◌&&◌, ◌||◌, List, [], ◌∷◌, length, get_or, take, drop, if◌then◌else◌}
-use Rattle.std.proofs.Math.Option.{Option, none, some}
+use Rattle.std.specs.Prelude.{ℕ, ◌+◌, ◌-◌, ◌*◌, ◌≤◌, ◌≡◌, ◌&&◌, List, [], ◌∷◌, length, get_or, take, drop, if◌then◌else◌, Option, None, Some, option_map, option_and_then}
 use Rattle.definition.specs.Table.{◌=?◌, ◌<?◌, ◌≤?◌}
 use Rattle.definition.specs.Records.{Record}
-use Rattle.ids.specs.declared.Lsn.{Lsn}
 use Rattle.ids.specs.declared.RaftReplicaIdentity.{RaftReplicaIdentity}
+use Rattle.ids.specs.declared.ReplicaId.{ReplicaId}
 use Rattle.codec.specs.declared.ConfChangeKind.{ConfChangeKind}
 use Rattle.codec.specs.declared.ConfChangeKind.TheVariants as K
 use Rattle.codec.specs.declared.DurableRaftEntryPayload.{DurableRaftEntryPayload}
 use Rattle.codec.specs.declared.DurableRaftEntryPayload.TheVariants as Y
-use Rattle.codec.specs.declared.Vote.{Vote}
-use Rattle.codec.specs.declared.Vote.TheVariants as O
+use Rattle.codec.specs.declared.Checksum.{Checksum}
+use Rattle.codec.specs.declared.HardState.{HardState}
+use Rattle.codec.specs.declared.RaftHardStateRecord.{RaftHardStateRecord}
+use Rattle.codec.specs.declared.RaftLogEntryRecord.{RaftLogEntryRecord}
+use Rattle.codec.specs.declared.RaftSnapshotPointerRecord.{RaftSnapshotPointerRecord}
 use Rattle.codec.specs.declared.RaftWalRecord.{RaftWalRecord}
 use Rattle.codec.specs.declared.RaftWalRecord.TheVariants as W
-use Rattle.codec.specs.declared.RecordBody.TheVariants as B
 use Rattle.codec.specs.declared.WalRecord.{WalRecord}
 use Rattle.codec.specs.Records.{record_of}
-use Rattle.text.specs.Text.{u32_max}
-use Rattle.text.specs.Field.{no_field}
+use Rattle.text.specs.Text.{at_most}
+use Rattle.text.specs.Field.{no_field, number_on, version_on, word_field, letter_field, vote_on, checksum_on}
 use Rattle.text.specs.declared.field.Field.{Field}
-use Rattle.text.specs.declared.field.Sum.{Sum}
 use Rattle.text.specs.declared.line.Line.{Line}
-use Rattle.text.specs.declared.record.MaybeRecord.{MaybeRecord}
-use Rattle.text.specs.declared.record.MaybeRecord.TheVariants as M
-use Rattle.text.specs.declared.record.MaybePayload.{MaybePayload}
-use Rattle.text.specs.declared.record.MaybePayload.TheVariants as Q
-use Rattle.text.specs.declared.record.MaybeCount.{MaybeCount}
-use Rattle.text.specs.declared.record.MaybeCount.TheVariants as C
 
 abbrev pub field_at : Line → ℕ → Field
 field_at l k = get_or l.fields k no_field
 
--- tests on one field
-abbrev pub number_field : Field → Bool
-number_field f = not (f.len =? 0) && f.decimal
+-- group and replica
+abbrev pub identity_from : Option ℕ → Option ℕ → Option RaftReplicaIdentity
+identity_from g r = option_and_then (λ n. option_map (λ m. record { raft_group_id = record { 0 = n }; replica_id = record { 0 = m } }) r) g
 
-abbrev pub version_field : Field → Bool
-version_field f = number_field f && f.value ≤? u32_max
+-- term, vote and commit
+abbrev pub hard_state_from : Option ℕ → Option (Option ReplicaId) → Option ℕ → Option HardState
+hard_state_from t v c = option_and_then (λ n. option_and_then (λ w. option_map (λ m. record { current_term = n; voted_for = w; commit = m }) c) v) t
 
-abbrev pub letter_field : Field → ℕ → Bool
-letter_field f b = f.len =? 1 && f.head =? b
+-- version, identity, ID, index, term, applied, size, rest and checksum
+abbrev pub pointer_from : Option ℕ → Option RaftReplicaIdentity → Option ℕ → Option ℕ → Option ℕ → Option ℕ → Option ℕ → Option ℕ → Option Checksum
+    → Option RaftSnapshotPointerRecord
+pointer_from v i d x t a z r s =
+    option_and_then (λ version.
+    option_and_then (λ identity.
+    option_and_then (λ id.
+    option_and_then (λ index.
+    option_and_then (λ term.
+    option_and_then (λ applied.
+    option_and_then (λ size.
+    option_and_then (λ rest.
+    option_map (λ sum. record {
+      format_version = version;
+      identity = identity;
+      snapshot_id = id;
+      last_included_index = index;
+      last_included_term = term;
+      applied_index = applied;
+      size_bytes = size;
+      rest = rest;
+      checksum = sum;
+    }) s) r) z) a) t) x) d) i) v
 
-abbrev pub sum_field : Sum → Bool
-sum_field s = s.len =? 64 && s.hex
-
--- a version past 2^32 - 1 reads as 0
-abbrev pub version_of : Field → ℕ
-version_of f = if f.value ≤? u32_max then f.value else 0
-
--- LSN, version, group, replica
-unfoldable pub owned_line : Line → Bool
-owned_line l = number_field (field_at l 1) && version_field (field_at l 2) && number_field (field_at l 3) && number_field (field_at l 4)
-
-abbrev pub lsn_of : Line → Lsn
-lsn_of l = record { 0 = (field_at l 1).value }
-
-abbrev pub identity_on : Line → RaftReplicaIdentity
-identity_on l = record { raft_group_id = record { 0 = (field_at l 3).value }; replica_id = record { 0 = (field_at l 4).value } }
-
-abbrev pub owned_record : Line → RaftWalRecord → WalRecord
-owned_record l k = record { lsn = lsn_of l; body = B.Raft k }
-
--- F
-unfoldable pub foreign_line : Line → Bool
-foreign_line l = l.count =? 1 && letter_field (field_at l 0) 70 && number_field l.field
-
-unfoldable pub foreign_record_of : Line → WalRecord
-foreign_record_of l = record { lsn = record { 0 = l.field.value }; body = B.Foreign }
-
--- H
-abbrev pub vote_on : Field → Vote
-vote_on f = if letter_field f 45 then O.None else O.Some (record { 0 = f.value })
-
-unfoldable pub hard_state_record_of : Line → WalRecord
-hard_state_record_of l =
-    owned_record l (W.HardState (record {
-      format_version = version_of (field_at l 2);
-      identity = identity_on l;
-      hard_state = record { current_term = (field_at l 5).value; voted_for = vote_on (field_at l 6); commit = l.field.value };
-    }))
-
-unfoldable pub hard_state_line : Line → Bool
-hard_state_line l =
-    l.count =? 7
-    && letter_field (field_at l 0) 72
-    && owned_line l
-    && number_field (field_at l 5)
-    && number_field l.field
-    && (letter_field (field_at l 6) 45 || number_field (field_at l 6))
+-- a pointer, from field k on
+unfoldable pub pointer_on : Line → ℕ → Option RaftSnapshotPointerRecord
+pointer_on l k =
+    pointer_from (version_on (field_at l k)) (identity_from (number_on (field_at l (k + 1))) (number_on (field_at l (k + 2))))
+    (number_on (field_at l (k + 3))) (number_on (field_at l (k + 4))) (number_on (field_at l (k + 5))) (number_on (field_at l (k + 6)))
+    (number_on (field_at l (k + 7))) (number_on (field_at l (k + 8))) (checksum_on l.sum)
 
 -- a command's place and length: 65 bytes are kept for each
-abbrev pub place_of : ℕ → List ℕ → MaybePayload
-place_of n lens = Q.Some (Y.Normal (65 * (n - 1)) (get_or lens (n - 1) 0))
+abbrev pub place_of : ℕ → List ℕ → DurableRaftEntryPayload
+place_of n lens = Y.Normal (65 * (n - 1)) (get_or lens (n - 1) 0)
 
 abbrev pub at_most256 : ℕ → ℕ
 at_most256 n = if n <? 256 then n else 256
 
-unfoldable pub command_at : ℕ → ℕ → List ℕ → MaybePayload
-command_at n count lens = if 1 ≤? n && n ≤? at_most256 count && n ≤? length lens then place_of n lens else Q.None
+unfoldable pub command_at : ℕ → List ℕ → Option DurableRaftEntryPayload
+command_at n lens = if 1 ≤? n && n ≤? 256 && n ≤? length lens then Some (place_of n lens) else None
 
-abbrev pub configuration_of : ConfChangeKind → ℕ → ℕ → DurableRaftEntryPayload
-configuration_of kind version replica = Y.Configuration kind version (record { 0 = replica })
+unfoldable pub change_on : Field → Option ConfChangeKind
+change_on f =
+    if letter_field f 65 then Some K.AddLearner
+    else (if letter_field f 80 then Some K.PromoteLearner
+    else (if letter_field f 82 then Some K.RemoveReplica
+    else None))
 
-unfoldable pub change_on : Field → ℕ → ℕ → MaybePayload
-change_on f version replica =
-    if letter_field f 65 then Q.Some (configuration_of K.AddLearner version replica)
-    else (if letter_field f 80 then Q.Some (configuration_of K.PromoteLearner version replica)
-    else (if letter_field f 82 then Q.Some (configuration_of K.RemoveReplica version replica)
-    else Q.None))
+abbrev pub configuration_from : Option ConfChangeKind → Option ℕ → Option ℕ → Option DurableRaftEntryPayload
+configuration_from c v r = option_and_then (λ kind. option_and_then (λ version. option_map (λ n. Y.Configuration kind version (record { 0 = n })) r) v) c
 
-unfoldable pub payload_on : Line → ℕ → List ℕ → MaybePayload
-payload_on l count lens =
-    if l.count =? 8
-    then (if letter_field (field_at l 7) 78 && number_field l.field then command_at l.field.value count lens else Q.None)
-    else (if l.count =? 9 && number_field (field_at l 8) && number_field l.field
-    then change_on (field_at l 7) (field_at l 8).value l.field.value
-    else Q.None)
+-- a payload, from field k on
+unfoldable pub payload_on : Line → ℕ → List ℕ → Option DurableRaftEntryPayload
+payload_on l k lens =
+    if l.count =? k + 1 && letter_field (field_at l k) 78 then option_and_then (λ n. command_at n lens) (number_on l.field)
+    else (if l.count =? k + 2
+    then configuration_from (change_on (field_at l k)) (number_on (field_at l (k + 1))) (number_on l.field)
+    else None)
 
--- E
-unfoldable pub entry_record_of : Line → DurableRaftEntryPayload → WalRecord
-entry_record_of l p =
-    owned_record l (W.Entry (record {
-      format_version = version_of (field_at l 2);
-      identity = identity_on l;
-      index = (field_at l 5).value;
-      term = (field_at l 6).value;
-      payload = p;
-    }))
+-- F
+abbrev pub foreign_from : Option ℕ → Option WalRecord
+foreign_from lsn = option_map (λ n. record { lsn = record { 0 = n }; body = None }) lsn
 
-unfoldable pub entry_line : Line → Bool
-entry_line l = letter_field (field_at l 0) 69 && owned_line l && number_field (field_at l 5) && number_field (field_at l 6)
+unfoldable pub foreign_on : Line → Option WalRecord
+foreign_on l = if l.count =? 1 then foreign_from (number_on l.field) else None
 
-abbrev pub entry_with : Line → MaybePayload → MaybeRecord
-entry_with l Q.None = M.None
-entry_with l (Q.Some p) = M.Some (entry_record_of l p)
+-- H
+abbrev pub hard_state_record_from : Option ℕ → Option RaftReplicaIdentity → Option HardState → Option RaftHardStateRecord
+hard_state_record_from v i h = option_and_then (λ version. option_and_then (λ identity. option_map (λ s. record { format_version = version; identity = identity; hard_state = s }) h) i) v
+
+unfoldable pub hard_state_on : Line → Option RaftHardStateRecord
+hard_state_on l =
+    if l.count =? 7
+    then hard_state_record_from (version_on (field_at l 2)) (identity_from (number_on (field_at l 3)) (number_on (field_at l 4)))
+    (hard_state_from (number_on (field_at l 5)) (vote_on (field_at l 6)) (number_on l.field))
+    else None
 
 -- P
-unfoldable pub pointer_record_of : Line → WalRecord
-pointer_record_of l =
-    owned_record l (W.SnapshotPointer (record {
-      format_version = version_of (field_at l 2);
-      identity = identity_on l;
-      snapshot_id = (field_at l 5).value;
-      last_included_index = (field_at l 6).value;
-      last_included_term = (field_at l 7).value;
-      applied_index = (field_at l 8).value;
-      size_bytes = (field_at l 9).value;
-      rest = (field_at l 10).value;
-      checksum = record { a = l.sum.a; b = l.sum.b; c = l.sum.c; d = l.sum.d };
-    }))
+abbrev pub pointer_record_on : Line → Option RaftSnapshotPointerRecord
+pointer_record_on l = if l.count =? 11 then pointer_on l 2 else None
 
-unfoldable pub pointer_line : Line → Bool
-pointer_line l =
-    l.count =? 11
-    && letter_field (field_at l 0) 80
-    && owned_line l
-    && number_field (field_at l 5)
-    && number_field (field_at l 6)
-    && number_field (field_at l 7)
-    && number_field (field_at l 8)
-    && number_field (field_at l 9)
-    && number_field (field_at l 10)
-    && sum_field l.sum
+-- E
+abbrev pub entry_from : Option ℕ → Option RaftReplicaIdentity → Option ℕ → Option ℕ → Option DurableRaftEntryPayload → Option RaftLogEntryRecord
+entry_from v i x t p =
+    option_and_then (λ version.
+    option_and_then (λ identity.
+    option_and_then (λ index.
+    option_and_then (λ term.
+    option_map (λ payload. record { format_version = version; identity = identity; index = index; term = term; payload = payload }) p) t) x) i) v
 
-unfoldable pub line_record : Line → ℕ → List ℕ → MaybeRecord
-line_record l count lens =
-    if foreign_line l then M.Some (foreign_record_of l)
-    else (if hard_state_line l then M.Some (hard_state_record_of l)
-    else (if pointer_line l then M.Some (pointer_record_of l)
-    else (if entry_line l then entry_with l (payload_on l count lens)
-    else M.None)))
+unfoldable pub entry_on : Line → List ℕ → Option RaftLogEntryRecord
+entry_on l lens =
+    entry_from (version_on (field_at l 2)) (identity_from (number_on (field_at l 3)) (number_on (field_at l 4)))
+    (number_on (field_at l 5)) (number_on (field_at l 6)) (payload_on l 7 lens)
 
--- the word `head` of `len` bytes, at most 8, and a number up to `most`
-unfoldable pub line_header : Line → ℕ → ℕ → ℕ → MaybeCount
-line_header l len head most =
-    if l.count =? 1 && (field_at l 0).len =? len && (field_at l 0).head =? head && number_field l.field && l.field.value ≤? most
-    then C.Some l.field.value
-    else C.None
+-- by its letter: 'H' 72, 'P' 80, 'E' 69
+abbrev pub body_on : Line → List ℕ → Option RaftWalRecord
+body_on l lens =
+    if letter_field (field_at l 0) 72 then option_map W.HardState (hard_state_on l)
+    else (if letter_field (field_at l 0) 80 then option_map W.SnapshotPointer (pointer_record_on l)
+    else (if letter_field (field_at l 0) 69 then option_map W.Entry (entry_on l lens)
+    else None))
 
--- bytes, and a word of up to 8 of them as one number, the first byte highest
-abbrev pub is_byte : ℕ → Bool
-is_byte b = b <? 256
+-- 'F' 70; or the LSN, and the body
+abbrev pub raft_from : Option ℕ → Option RaftWalRecord → Option WalRecord
+raft_from lsn body = option_and_then (λ n. option_map (λ k. record { lsn = record { 0 = n }; body = Some k }) body) lsn
 
-unfoldable pub pack_from : ℕ → List ℕ → ℕ
-pack_from n [] = n
-pack_from n (b ∷ s) = pack_from (n * 256 + b) s
+unfoldable pub line_record : Line → List ℕ → Option WalRecord
+line_record l lens = if letter_field (field_at l 0) 70 then foreign_on l else raft_from (number_on (field_at l 1)) (body_on l lens)
 
--- "commands" and "records"
-abbrev pub commands_head : ℕ
-commands_head = 7165065848723235955
-
-abbrev pub records_head : ℕ
-records_head = 32199625090950259
+-- a word of at most 16 bytes, and a number up to `most`
+unfoldable pub line_header : Line → List ℕ → ℕ → Option ℕ
+line_header l word most = if l.count =? 1 && word_field (field_at l 0) word then at_most most (number_on l.field) else None
 
 -- ---- what they mean
 
@@ -210,10 +164,5 @@ pub record Lent (lens : List ℕ) (lent : List ℕ) : Type 0 where
   pub short : (i : ℕ) → get_or lens i 0 ≤ 65
   pub room : length lent ≡ 16640
 
-abbrev pub maybe_record_of : MaybeRecord → List ℕ → Option Record
-maybe_record_of M.None lent = none
-maybe_record_of (M.Some r) lent = some (record_of r lent)
-
-abbrev pub maybe_count_of : MaybeCount → Option ℕ
-maybe_count_of C.None = none
-maybe_count_of (C.Some n) = some n
+abbrev pub maybe_record_of : Option WalRecord → List ℕ → Option Record
+maybe_record_of o lent = option_map (λ r. record_of r lent) o

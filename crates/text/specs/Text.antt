@@ -1,7 +1,6 @@
 -- The lines of a journal (document 01, 'The program `recover` reads standard input'). A line is its bytes, without the newline.
 -- Assumes nothing.
-use Rattle.std.specs.Prelude.{ℕ, ◌+◌, ◌-◌, ◌*◌, Bool, ◌&&◌, ◌||◌, List, [], ◌∷◌, ◌++◌, length, get_or, take, drop, if◌then◌else◌}
-use Rattle.std.proofs.Math.Option.{Option, none, some}
+use Rattle.std.specs.Prelude.{ℕ, ◌+◌, ◌-◌, ◌*◌, Bool, ◌&&◌, ◌||◌, List, [], ◌∷◌, ◌++◌, length, get_or, take, drop, if◌then◌else◌, Option, None, Some}
 use Rattle.definition.specs.Table.{◌=?◌, ◌<?◌, ◌≤?◌, u64_max, is_some, or_zero, every, same_bytes}
 use Rattle.definition.specs.Records.{Identity, Change, addLearner, promoteLearner, removeReplica, Payload, normal, inside, configuration, Checksum, Kind, entry, hard_state, pointer, foreign, raft, Record}
 
@@ -17,17 +16,17 @@ is_digit b = 48 ≤? b && b ≤? 57
 
 -- what n grows to by the digits of s
 unfoldable pub numeral_from : ℕ → List ℕ → Option ℕ
-numeral_from n [] = some n
-numeral_from n (b ∷ s) = if is_digit b then numeral_from (n * 10 + (b - 48)) s else none
+numeral_from n [] = Some n
+numeral_from n (b ∷ s) = if is_digit b then numeral_from (n * 10 + (b - 48)) s else None
 
 -- digits only, at least one
 abbrev pub numeral : List ℕ → Option ℕ
-numeral [] = none
+numeral [] = None
 numeral (b ∷ s) = numeral_from 0 (b ∷ s)
 
 abbrev pub at_most : ℕ → Option ℕ → Option ℕ
-at_most most none = none
-at_most most (some n) = if n ≤? most then some n else none
+at_most most None = None
+at_most most (Some n) = if n ≤? most then Some n else None
 
 -- a number up to `most`
 abbrev pub number : ℕ → List ℕ → Option ℕ
@@ -63,18 +62,18 @@ hex_from n (b ∷ s) = hex_from (n * 16 + hex_digit b) s
 
 -- two digits a byte
 abbrev pub with_byte : ℕ → Option (List ℕ) → Option (List ℕ)
-with_byte x none = none
-with_byte x (some l) = some (x ∷ l)
+with_byte x None = None
+with_byte x (Some l) = Some (x ∷ l)
 
 unfoldable pub hex_bytes : List ℕ → Option (List ℕ)
-hex_bytes [] = some []
-hex_bytes (a ∷ []) = none
-hex_bytes (a ∷ b ∷ s) = if is_hex a && is_hex b then with_byte (hex_digit a * 16 + hex_digit b) (hex_bytes s) else none
+hex_bytes [] = Some []
+hex_bytes (a ∷ []) = None
+hex_bytes (a ∷ b ∷ s) = if is_hex a && is_hex b then with_byte (hex_digit a * 16 + hex_digit b) (hex_bytes s) else None
 
 -- a command line: up to 65 bytes
 abbrev pub at_most_bytes : ℕ → Option (List ℕ) → Option (List ℕ)
-at_most_bytes most none = none
-at_most_bytes most (some l) = if length l ≤? most then some l else none
+at_most_bytes most None = None
+at_most_bytes most (Some l) = if length l ≤? most then Some l else None
 
 abbrev pub command_line : List ℕ → Option (List ℕ)
 command_line s = at_most_bytes 65 (hex_bytes s)
@@ -133,56 +132,56 @@ version fs = value u32_max (nth 2 fs)
 abbrev pub foreign_record : List (List ℕ) → Option Record
 foreign_record fs =
     if length fs =? 2 && is_letter (nth 0 fs) 70 && is_number u64_max (nth 1 fs)
-    then some (record { lsn = value u64_max (nth 1 fs); body = foreign })
-    else none
+    then Some (record { lsn = value u64_max (nth 1 fs); body = foreign })
+    else None
 
 -- '-' (45) for no vote, or a replica
 abbrev pub is_vote : List ℕ → Bool
 is_vote f = is_letter f 45 || is_number u64_max f
 
 abbrev pub vote : List ℕ → Option ℕ
-vote f = if is_letter f 45 then none else some (value u64_max f)
+vote f = if is_letter f 45 then None else Some (value u64_max f)
 
 -- H LSN version group replica term vote commit
 abbrev pub hard_state_record : List (List ℕ) → Option Record
 hard_state_record fs =
     if length fs =? 8 && is_letter (nth 0 fs) 72 && is_owned fs && is_number u64_max (nth 5 fs) && is_number u64_max (nth 7 fs) && is_vote (nth 6 fs)
-    then some (owned fs (hard_state (version fs) (record { current_term = value u64_max (nth 5 fs); voted_for = vote (nth 6 fs); commit = value u64_max (nth 7 fs) })))
-    else none
+    then Some (owned fs (hard_state (version fs) (record { current_term = value u64_max (nth 5 fs); voted_for = vote (nth 6 fs); commit = value u64_max (nth 7 fs) })))
+    else None
 
 -- command n of those given, from 1
 abbrev pub command : List (List ℕ) → ℕ → Option Payload
-command commands n = if 1 ≤? n && n ≤? length commands then some (normal (inside (nth (n - 1) commands))) else none
+command commands n = if 1 ≤? n && n ≤? length commands then Some (normal (inside (nth (n - 1) commands))) else None
 
 -- 'A' adds a learner, 'P' promotes, 'R' removes
 abbrev pub change : List ℕ → Option Change
 change f =
-    if is_letter f 65 then some addLearner
-    else (if is_letter f 80 then some promoteLearner
-    else (if is_letter f 82 then some removeReplica
-    else none))
+    if is_letter f 65 then Some addLearner
+    else (if is_letter f 80 then Some promoteLearner
+    else (if is_letter f 82 then Some removeReplica
+    else None))
 
 abbrev pub changed : Option Change → ℕ → ℕ → Option Payload
-changed none v r = none
-changed (some c) v r = some (configuration c v r)
+changed None v r = None
+changed (Some c) v r = Some (configuration c v r)
 
 -- N number; or A, P, R version replica
 abbrev pub payload : List (List ℕ) → List (List ℕ) → Option Payload
 payload commands fs =
     if length fs =? 9
-    then (if is_letter (nth 7 fs) 78 && is_number u64_max (nth 8 fs) then command commands (value u64_max (nth 8 fs)) else none)
+    then (if is_letter (nth 7 fs) 78 && is_number u64_max (nth 8 fs) then command commands (value u64_max (nth 8 fs)) else None)
     else (if length fs =? 10 && is_number u64_max (nth 8 fs) && is_number u64_max (nth 9 fs)
     then changed (change (nth 7 fs)) (value u64_max (nth 8 fs)) (value u64_max (nth 9 fs))
-    else none)
+    else None)
 
 abbrev pub entry_of : List (List ℕ) → Option Payload → Option Record
-entry_of fs none = none
-entry_of fs (some p) = some (owned fs (entry (version fs) (record { index = value u64_max (nth 5 fs); term = value u64_max (nth 6 fs); payload = p })))
+entry_of fs None = None
+entry_of fs (Some p) = Some (owned fs (entry (version fs) (record { index = value u64_max (nth 5 fs); term = value u64_max (nth 6 fs); payload = p })))
 
 -- E LSN version group replica index term, then the payload
 abbrev pub entry_record : List (List ℕ) → List (List ℕ) → Option Record
 entry_record commands fs =
-    if is_letter (nth 0 fs) 69 && is_owned fs && is_number u64_max (nth 5 fs) && is_number u64_max (nth 6 fs) then entry_of fs (payload commands fs) else none
+    if is_letter (nth 0 fs) 69 && is_owned fs && is_number u64_max (nth 5 fs) && is_number u64_max (nth 6 fs) then entry_of fs (payload commands fs) else None
 
 -- P LSN version group replica ID index term applied size rest checksum
 abbrev pub pointer_record : List (List ℕ) → Option Record
@@ -197,7 +196,7 @@ pointer_record fs =
     && is_number u64_max (nth 9 fs)
     && is_number u64_max (nth 10 fs)
     && is_checksum (nth 11 fs)
-    then some (owned fs (pointer (record {
+    then Some (owned fs (pointer (record {
       version = version fs;
       snapshot_id = value u64_max (nth 5 fs);
       last_included_index = value u64_max (nth 6 fs);
@@ -207,11 +206,11 @@ pointer_record fs =
       rest = value u64_max (nth 10 fs);
       checksum = checksum (nth 11 fs);
     })))
-    else none
+    else None
 
 abbrev pub first : Option Record → Option Record → Option Record
-first none b = b
-first (some a) b = some a
+first None b = b
+first (Some a) b = Some a
 
 -- the form that the fields have: 'F' 70, 'H' 72, 'P' 80, 'E' 69
 unfoldable pub record_fields : List (List ℕ) → List (List ℕ) → Option Record
@@ -233,4 +232,4 @@ records_word = 114 ∷ 101 ∷ 99 ∷ 111 ∷ 114 ∷ 100 ∷ 115 ∷ []
 
 unfoldable pub header_line : List ℕ → ℕ → List ℕ → Option ℕ
 header_line word most s =
-    if length (fields s) =? 2 && same_bytes (nth 0 (fields s)) word then number most (nth 1 (fields s)) else none
+    if length (fields s) =? 2 && same_bytes (nth 0 (fields s)) word then number most (nth 1 (fields s)) else None

@@ -1,12 +1,13 @@
 // One line, in pieces of any size.
-ghost use Rattle.std.specs.Prelude.{◌≡◌, drop};
-ghost use Rattle.text.specs.Line.{blank_line, line_of, stopped_at, read_line};
+#![tactic(auto, using(crate::proofs::Lines::end_within, crate::proofs::Lines::piece_is, crate::proofs::Lines::drop_end), unfolding(crate::specs::Line::closed, crate::specs::Line::extended, crate::specs::Line::fed))]
 
-use crate::field;
+ghost use Rattle.std.specs.Prelude.{◌≡◌};
+ghost use Rattle.text.specs.Line.{blank_line, closed, pushed, fed, piece, newline_at, taken};
+
 use crate::field::{Field, Sum};
 
-// What a line is so far.
-#[derive(Clone, Copy)]
+// What a line is so far. A line has as many fields as it likes; there is no heap to keep them all, and no form has more than 12.
+#[derive(Clone, Copy, Debug, PartialEq, Eq)]
 pub struct Line {
     // the closed fields
     pub fields: [Field; 12],
@@ -18,12 +19,11 @@ pub struct Line {
     pub sum: Sum,
 }
 
-// A line read on: `next` is behind the newline where the line ended, else behind the bytes.
-#[derive(Clone, Copy)]
-pub struct ReadLine {
-    pub line: Line,
-    pub next: usize,
-    pub ended: bool,
+// Where the first newline stands.
+pub fn newline_at(bytes: &[u8]) -> Option<usize>
+    ensures { result ≡ newline_at bytes.now }
+{
+    bytes.iter().position(|&b| b == b'\n')
 }
 
 impl Line {
@@ -31,80 +31,51 @@ impl Line {
     pub fn blank() -> Line
         ensures { result ≡ blank_line }
     {
-        let field = Field::blank();
-        let sum = Sum::blank();
-        let fields = [field; 12];
         Line {
-            fields: fields,
+            fields: [Field::blank(); 12],
             count: 0,
-            field: field,
-            sum: sum,
+            field: Field::blank(),
+            sum: Sum::blank(),
         }
     }
-}
 
-fn stopped(
-    fields: [Field; 12],
-    count: usize,
-    field: Field,
-    sum: Sum,
-    next: usize,
-    ended: bool,
-) -> ReadLine
-    ensures { result ≡ stopped_at (line_of fields count field sum) next ended }
-{
-    let line = Line {
-        fields: fields,
-        count: count,
-        field: field,
-        sum: sum,
-    };
-    ReadLine {
-        line: line,
-        next: next,
-        ended: ended,
+    // The open field ends.
+    fn close(&mut self)
+        ensures { self.new ≡ closed self.old }
+    {
+        if self.count < 12 {
+            self.fields[self.count] = self.field;
+        }
+        if 10 <= self.count {
+            self.sum = Sum::blank();
+        }
+        self.count = self.count.saturating_add(1).min(13);
+        self.field = Field::blank();
     }
-}
 
-// Reads on to the newline or the end of the bytes.
-pub fn read_line(bytes: &[u8], from: usize, line: Line) -> ReadLine
-    ensures { result ≡ read_line line from (drop from bytes.now) }
-{
-    let mut fields = line.fields;
-    let mut n = line.count;
-    let mut f = line.field;
-    let mut m = line.sum;
-    let mut at = from;
-    while at < bytes.len() {
-        let b = bytes[at];
-        if b == 10 {
-            return stopped(fields, n, f, m, at + 1, true);
+    // One more byte.
+    fn push(&mut self, b: u8)
+        ensures { self.new ≡ pushed self.old b }
+    {
+        if b == b' ' {
+            self.close();
+            return;
         }
-        if n < 10 {
-            if b == 32 {
-                fields[n] = f;
-                n = n + 1;
-                f = Field::blank();
-                at = at + 1;
-            } else {
-                let s = field::scan_field(bytes, at, f);
-                f = s.field;
-                at = s.at;
-            }
-        } else if b == 32 {
-            if n < 12 {
-                fields[n] = f;
-            }
-            n = field::count_up(n, 13);
-            f = Field::blank();
-            m = Sum::blank();
-            at = at + 1;
-        } else {
-            let s = field::scan_sum(bytes, at, f, m);
-            f = s.field;
-            m = s.sum;
-            at = s.at;
+        self.field.push(b);
+        if 10 <= self.count {
+            self.sum.push(b);
         }
     }
-    stopped(fields, n, f, m, at, false)
+
+    // Reads on to the newline or the end of the bytes: how many of them it took with the newline, where one came.
+    pub fn read(&mut self, bytes: &[u8]) -> Option<usize>
+        ensures line { self.new ≡ fed self.old (piece bytes.now) }
+        ensures end { result ≡ taken bytes.now }
+    {
+        let end = newline_at(bytes);
+        for &b in &bytes[..end.unwrap_or(bytes.len())] {
+            self.push(b);
+        }
+        end.map(|i| i + 1)
+    }
 }

@@ -1,9 +1,0 @@
--- `text::record::vote_of` meets its contract.
-use mathlib.Core.Path.{sym, ◌∙◌}
-use Rattle.text.proofs.record.vote_of.Goals as goal
-
-pub returns-then-is_letter : goal.returns-then-is_letter
-returns-then-is_letter c = simp (sym c.is_letter.ensures ∙ c.if-is_letter.true)
-
-pub returns : goal.returns
-returns c = simp (sym c.is_letter.ensures ∙ c.if-is_letter.false)
