@@ -1,2 +1,2 @@
-pub mod Commands
-pub mod Rows
+pub mod Search
+pub mod Hex

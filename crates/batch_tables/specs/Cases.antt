@@ -1,9 +1,8 @@
 -- Computed tests of the lines that `batch` prints. Each is one declaration over a list.
 -- Assumes nothing.
-use Rattle.std.specs.Prelude.{ℕ, Bool, true, false, List, [], ◌∷◌, ◌++◌, replicate, T}
+use Rattle.std.specs.Prelude.{ℕ, Bool, true, false, List, [], ◌∷◌, ◌++◌, replicate, T, None, Some, Ok, Err}
 use Prim.Native.Char.{code}
 use Prim.Native.String.{String, [] as empty, ◌∷◌ as ◌then◌}
-use Rattle.std.proofs.Math.Option.{none, some}
 use Rattle.definition.specs.Table.{◌=?◌, u64_max, every, same_bytes}
 use Rattle.definition.specs.Records.{Identity, addLearner, promoteLearner, removeReplica}
 use Rattle.ids.specs.declared.Refusal.TheVariants as F
@@ -11,12 +10,9 @@ use Rattle.ids.specs.declared.RaftReplicaIdentity.{RaftReplicaIdentity}
 use Rattle.codec.specs.declared.ConfChangeKind.TheVariants as K
 use Rattle.codec.specs.declared.DurableRaftEntryPayload.{DurableRaftEntryPayload}
 use Rattle.codec.specs.declared.DurableRaftEntryPayload.TheVariants as Y
-use Rattle.codec.specs.declared.Vote.TheVariants as O
 use Rattle.codec.specs.declared.RaftWalRecord.TheVariants as W
-use Rattle.codec.specs.declared.RecordBody.TheVariants as B
 use Rattle.tables.specs.Tables.{digits_within, decimal, row}
 use Rattle.tables.specs.Model.{lines_to}
-use Rattle.preview.specs.declared.Prepared.TheVariants as A
 use Rattle.persistence.specs.declared.PreparedRecord.{PreparedRecord}
 use Rattle.persistence.specs.declared.PreparedBatch.{PreparedBatch}
 use Rattle.batch_tables.specs.Lines.{hex_text, least_from, least_number, normal_fields, change_fields, entry_line, hard_state_line, pointer_line, refused_batch, journal_refused, shown_line, minimum_line}
@@ -44,16 +40,16 @@ lines =
     ∷ is (shown_line 0 false (65 ∷ [])) "shown 0 log 41"
     ∷ is (shown_line 5 true []) "shown 5 batch"
     ∷ is (shown_line u64_max false []) "shown 18446744073709551615 log"
-    ∷ is (minimum_line none) "minimum -"
-    ∷ is (minimum_line (some 0)) "minimum 0"
-    ∷ is (minimum_line (some u64_max)) "minimum 18446744073709551615"
+    ∷ is (minimum_line None) "minimum -"
+    ∷ is (minimum_line (Some 0)) "minimum 0"
+    ∷ is (minimum_line (Some u64_max)) "minimum 18446744073709551615"
     -- each field has its own place
     ∷ is (entry_line 1 id 4 5 (normal_fields 6)) "E 1 2 3 4 5 N 6"
     ∷ is (entry_line 1 id 4 5 (change_fields addLearner 6 7)) "E 1 2 3 4 5 A 6 7"
     ∷ is (entry_line 1 id 4 5 (change_fields promoteLearner 6 7)) "E 1 2 3 4 5 P 6 7"
     ∷ is (entry_line 1 id 4 5 (change_fields removeReplica 6 7)) "E 1 2 3 4 5 R 6 7"
-    ∷ is (hard_state_line 1 id (record { current_term = 4; voted_for = none; commit = 5 })) "H 1 2 3 4 - 5"
-    ∷ is (hard_state_line 1 id (record { current_term = 4; voted_for = some 6; commit = 5 })) "H 1 2 3 4 6 5"
+    ∷ is (hard_state_line 1 id (record { current_term = 4; voted_for = None; commit = 5 })) "H 1 2 3 4 - 5"
+    ∷ is (hard_state_line 1 id (record { current_term = 4; voted_for = Some 6; commit = 5 })) "H 1 2 3 4 6 5"
     ∷ is
     (pointer_line id (record {
       version = 1;
@@ -100,18 +96,18 @@ lent : List ℕ
 lent = 65 ∷ 66 ∷ replicate 65 65
 
 an_entry : ℕ → DurableRaftEntryPayload → PreparedRecord
-an_entry index p = record { body = B.Raft (W.Entry (record { format_version = 1; identity = who; index = index; term = 5; payload = p })) }
+an_entry index p = record { body = Some (W.Entry (record { format_version = 1; identity = who; index = index; term = 5; payload = p })) }
 
 a_hard_state : PreparedRecord
 a_hard_state =
     record {
-      body = B.Raft (W.HardState (record { format_version = 1; identity = who; hard_state = record { current_term = 5; voted_for = O.None; commit = 8 } }));
+      body = Some (W.HardState (record { format_version = 1; identity = who; hard_state = record { current_term = 5; voted_for = None; commit = 8 } }));
     }
 
 a_pointer : PreparedRecord
 a_pointer =
     record {
-      body = B.Raft (W.SnapshotPointer (record {
+      body = Some (W.SnapshotPointer (record {
         format_version = 1;
         identity = who;
         snapshot_id = 4;
@@ -126,11 +122,11 @@ a_pointer =
 
 -- records, as many as the count says
 ready : ℕ → List PreparedRecord → PreparedBatch
-ready count records = record { answer = A.Ready; count = count; records = records }
+ready count records = record { answer = (Ok tt); count = count; records = records }
 
 answers : List Bool
 answers =
-    is (prepared_text (record { answer = A.Refused F.CommitBeyondLog; count = 1; records = a_hard_state ∷ [] }) commands lent) "refused 49"
+    is (prepared_text (record { answer = Err F.CommitBeyondLog; count = 1; records = a_hard_state ∷ [] }) commands lent) "refused 49"
     ∷ same_bytes (prepared_text (ready 0 (a_hard_state ∷ [])) commands lent) []
     ∷ is (prepared_text (ready 1 (a_hard_state ∷ a_pointer ∷ [])) commands lent) "H 1 2 3 5 - 8"
     ∷ same_bytes

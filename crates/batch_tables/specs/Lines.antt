@@ -1,8 +1,7 @@
 -- What the program `batch` prints, as ASCII bytes: numbers in decimal, single spaces, and a newline at the end of each line. A record has
 -- the fields of a journal's line (document 01) without the LSN.
 -- Assumes nothing.
-use Rattle.std.specs.Prelude.{ℕ, suc, ◌+◌, ◌/◌, ◌%◌, Bool, true, false, List, [], ◌∷◌, ◌++◌, if◌then◌else◌}
-use Rattle.std.proofs.Math.Option.{Option, none, some}
+use Rattle.std.specs.Prelude.{ℕ, suc, ◌+◌, ◌/◌, ◌%◌, Bool, true, false, List, [], ◌∷◌, ◌++◌, if◌then◌else◌, Option, None, Some}
 use Rattle.definition.specs.Table.{◌<?◌, same_bytes}
 use Rattle.definition.specs.Records.{Identity, Change, addLearner, promoteLearner, removeReplica, HardState, Checksum, Pointer}
 use Rattle.tables.specs.Tables.{decimal, row, refused_word, hard_fields}
@@ -82,7 +81,7 @@ entry_line version i index term payload = row ((69 ∷ []) ∷ owner_fields vers
 
 -- H version group replica term vote commit
 abbrev pub hard_state_line : ℕ → Identity → HardState → List ℕ
-hard_state_line version i h = row ((72 ∷ []) ∷ owner_fields version i (hard_fields (some h)))
+hard_state_line version i h = row ((72 ∷ []) ∷ owner_fields version i (hard_fields (Some h)))
 
 -- ID, index, term, applied, size and rest, a space behind each
 abbrev pub snapshot_text : Pointer → List ℕ
@@ -150,8 +149,8 @@ minimum_word = 109 ∷ 105 ∷ 110 ∷ 105 ∷ 109 ∷ 117 ∷ 109 ∷ []
 
 -- minimum LSN, or minimum -
 abbrev pub lsn_field : Option ℕ → List ℕ
-lsn_field none = 45 ∷ []
-lsn_field (some n) = decimal n
+lsn_field None = 45 ∷ []
+lsn_field (Some n) = decimal n
 
 abbrev pub minimum_line : Option ℕ → List ℕ
 minimum_line lsn = row (minimum_word ∷ lsn_field lsn ∷ [])

@@ -1,22 +1,25 @@
 -- The lines of what preparing answered. A command is a place and a length in the lent bytes; `commands` are those that were given.
 -- Assumes nothing.
-use Rattle.std.specs.Prelude.{ℕ, min, List, [], get_or, take, drop}
+use Rattle.std.specs.Prelude.{ℕ, min, List, [], get_or, take, drop, Option, None, Some, Result, Ok, Err}
 use Rattle.ids.specs.Identity.{identity_of}
 use Rattle.ids.specs.Refusal.{number_of}
+use Rattle.ids.specs.declared.Refusal.{Refusal}
 use Rattle.codec.specs.declared.DurableRaftEntryPayload.{DurableRaftEntryPayload}
 use Rattle.codec.specs.declared.DurableRaftEntryPayload.TheVariants as Y
 use Rattle.codec.specs.declared.RaftLogEntryRecord.{RaftLogEntryRecord}
 use Rattle.codec.specs.declared.RaftWalRecord.{RaftWalRecord}
 use Rattle.codec.specs.declared.RaftWalRecord.TheVariants as W
-use Rattle.codec.specs.declared.RecordBody.{RecordBody}
-use Rattle.codec.specs.declared.RecordBody.TheVariants as B
 use Rattle.codec.specs.Records.{change_of, hard_state_of, pointer_of}
 use Rattle.tables.specs.Model.{lines_to}
-use Rattle.preview.specs.declared.Prepared.{Prepared}
-use Rattle.preview.specs.declared.Prepared.TheVariants as A
 use Rattle.persistence.specs.declared.PreparedRecord.{PreparedRecord}
 use Rattle.persistence.specs.declared.PreparedBatch.{PreparedBatch}
 use Rattle.batch_tables.specs.Lines.{least_number, normal_fields, change_fields, entry_line, hard_state_line, pointer_line, refused_batch}
+use Rattle.ids.specs.declared.Refusal.{Refusal}
+
+-- The commands that were given, and the bytes that were lent.
+pub record Given : Type 0 where
+  pub commands : List (List ℕ)
+  pub lent : List ℕ
 
 abbrev pub payload_fields : DurableRaftEntryPayload → List (List ℕ) → List ℕ → List (List ℕ)
 payload_fields (Y.Normal place len) commands lent = normal_fields (least_number commands (take len (drop place lent)))
@@ -31,22 +34,22 @@ raft_text (W.HardState h) commands lent = hard_state_line h.format_version (iden
 raft_text (W.SnapshotPointer p) commands lent = pointer_line (identity_of p.identity) (pointer_of p)
 
 -- A record of no Raft kind is no line.
-abbrev pub record_text : RecordBody → List (List ℕ) → List ℕ → List ℕ
-record_text B.Foreign commands lent = []
-record_text (B.Raft r) commands lent = raft_text r commands lent
+abbrev pub record_text : Option RaftWalRecord → List (List ℕ) → List ℕ → List ℕ
+record_text None commands lent = []
+record_text (Some r) commands lent = raft_text r commands lent
 
 -- What a read past the end of an array gives.
 abbrev pub no_record : PreparedRecord
-no_record = record { body = B.Foreign }
+no_record = record { body = None }
 
 -- The first `count` records, one after the other.
 abbrev pub record_texts : List PreparedRecord → ℕ → List (List ℕ) → List ℕ → List ℕ
 record_texts records count commands lent = lines_to count (λ i. record_text (get_or records i no_record).body commands lent)
 
 -- A refusal, or the records, at most 34.
-abbrev pub answered : Prepared → List PreparedRecord → ℕ → List (List ℕ) → List ℕ → List ℕ
-answered A.Ready records count commands lent = record_texts records count commands lent
-answered (A.Refused why) records count commands lent = refused_batch (number_of why)
+abbrev pub answered : Result (Unit {0}) Refusal → List PreparedRecord → ℕ → List (List ℕ) → List ℕ → List ℕ
+answered (Ok _) records count commands lent = record_texts records count commands lent
+answered (Err why) records count commands lent = refused_batch (number_of why)
 
 unfoldable pub prepared_text : PreparedBatch → List (List ℕ) → List ℕ → List ℕ
 prepared_text p commands lent = answered p.answer p.records (min p.count 34) commands lent

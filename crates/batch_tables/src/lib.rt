@@ -1,61 +1,53 @@
 // The output of the program `batch`: the prepared records or a refusal, the commands shown, the minimum recovery LSN. Records have the
 // fields of a journal's lines without the LSN; a command stands there by the least number that was given the same bytes.
-#![tactic(auto)]
+#![tactic(auto, unfolding(tables::specs::Tables::row))]
 
-ghost use Rattle.std.specs.Prelude.{◌≡◌, [], ◌∷◌, ◌++◌, ◌+◌, ◌*◌, ◌%◌, ◌≤◌, ◌<◌, min, length, take, drop};
-ghost use Rattle.definition.specs.Table.{same_bytes};
+ghost use Rattle.std.specs.Prelude.{◌≡◌, ◌∷◌, [], ◌++◌, ◌+◌, ◌*◌, ◌≤◌, ◌<◌, length, take, drop};
 ghost use Rattle.ids.specs.Identity.{identity_of};
 ghost use Rattle.codec.specs.Records.{change_of, hard_state_of, checksum_of, pointer_of};
 ghost use Rattle.view.specs.Meaning.{lsn_of};
-ghost use Rattle.text.specs.Record.{at_most256, commands_in};
+ghost use Rattle.text.specs.Record.{commands_in};
 ghost use Rattle.tables.specs.Tables.{row};
-ghost use Rattle.tables.specs.Model.{Wrote, Printed};
-ghost use Rattle.batch_tables.specs.Lines.{hex_glyph, hex_pair, hex_text, word_text, checksum_text, least_number, owner_text, normal_fields, change_letter, change_fields, hard_state_line, snapshot_text, pointer_line, refused_batch, journal_refused, source_word, command_text, shown_line, minimum_line};
-ghost use Rattle.batch_tables.specs.Model.{payload_fields, entry_text, raft_text, record_text, record_texts, prepared_text};
+ghost use Rattle.batch_tables.specs.Lines.{hex_glyph, hex_text, word_text, checksum_text, least_number, owner_text, normal_fields, change_letter, change_fields, hard_state_line, snapshot_text, pointer_line, journal_refused, source_word, command_text, shown_line, minimum_line};
+ghost use Rattle.batch_tables.specs.Model.{payload_fields, entry_text, raft_text, record_text, prepared_text, Given};
 
 use codec::{
     Checksum, ConfChangeKind, DurableRaftEntryPayload, RaftHardStateRecord, RaftLogEntryRecord,
-    RaftSnapshotPointerRecord, RaftWalRecord, RecordBody,
+    RaftSnapshotPointerRecord, RaftWalRecord,
 };
-use ids::RaftReplicaIdentity;
+use ids::{Lsn, RaftReplicaIdentity};
 use persistence::{PreparedBatch, PreparedRecord};
-use preview::Prepared;
-use view::MaybeLsn;
+use std::marker::Model;
+use tables::Output;
 
-// Whether two parts of the lent bytes are the same bytes.
-fn same_parts(lent: &[u8], at: usize, len: usize, other: usize, size: usize) -> bool
-    ensures { result ≡ same_bytes (take len (drop at lent.now)) (take size (drop other lent.now)) }
-{
-    let one = shown::part(lent, at, len);
-    let two = shown::part(lent, other, size);
-    store::same_bytes(one, two)
+// The commands that were given, at most 256: how many, the length of each, and the lent bytes, 65 for each. Contracts see the commands
+// and the lent bytes.
+#[derive(Drop)]
+struct Commands<'a> {
+    count: usize,
+    lens: &'a [u8],
+    lent: &'a [u8],
 }
 
-// How many commands are given: at most 256, and as many as there are lengths.
-fn given(commands: usize, lens: &[u8]) -> usize
-    ensures { result ≡ min (at_most256 commands) (length lens.now) }
-{
-    let most = text::record::at_most(commands);
-    if lens.len() < most {
-        return lens.len();
-    }
-    most
+impl<'a> Model for Commands<'a> {
+    ghost Value = { Given };
+
+    ghost view = { λ c. record { commands = commands_in c.count c.lens.now c.lent.now; lent = c.lent.now } };
 }
 
-// The least number of a command with these bytes of the lent ones; 0 where none has them.
-fn number_of(place: usize, len: usize, commands: usize, lens: &[u8], lent: &[u8]) -> u64
-    ensures { result ≡ least_number (commands_in commands lens.now lent.now) (take len (drop place lent.now)) }
-{
-    let n = given(commands, lens);
-    let mut i: usize = 0;
-    while i < n {
-        let size = lens[i] as usize;
-        if same_parts(lent, 65 * i, size, place, len) {
-            return i as u64 + 1;
+impl<'a> Commands<'a> {
+    // The least number of a command with these bytes of the lent ones; 0 where none has them.
+    fn number_of(&self, place: usize, len: usize) -> u64
+        ensures { result ≡ least_number self.now.commands (take len (drop place self.now.lent)) }
+    {
+        let wanted = shown::part(self.lent, place, len);
+        for i in 0..text::record::at_most(self.count).min(self.lens.len()) {
+            if shown::part(self.lent, 65 * i, self.lens[i] as usize) == wanted {
+                return i as u64 + 1;
+            }
         }
-        i = i + 1;
+        0
     }
-    0
 }
 
 // A hex digit, in small letters.
@@ -63,338 +55,265 @@ fn digit(n: u8) -> u8
     requires { n < 16 }
     ensures { result ≡ hex_glyph n }
 {
-    if n < 10 {
-        return 48 + n;
+    if n < 10 { b'0' + n } else { b'a' + (n - 10) }
+}
+
+// Bytes as hex digits, two each.
+#[tactic(auto, using(tables::proofs::Text::lines_step), unfolding(tables::specs::Model::lines_to))]
+pub fn put_hex<const N: usize>(out: &mut Output<N>, bytes: &[u8])
+    requires { length out.old + 2 * length bytes.now ≤ N }
+    ensures text { out.new ≡ out.old ++ hex_text bytes.now }
+    ensures short { length out.new ≤ length out.old + 2 * length bytes.now }
+{
+    for b in bytes {
+        out.put(&[digit(*b / 16), digit(*b % 16)]);
     }
-    87 + n
-}
-
-// A byte as two hex digits.
-fn put_pair(out: &mut [u8], at: usize, b: u8) -> usize
-    requires { at + 2 ≤ length out.old }
-    ensures { Wrote out.old at (hex_pair b) 2 result out.new }
-{
-    let pair = [digit(b / 16), digit(b % 16)];
-    tables::put_bytes(out, at, &pair)
-}
-
-// Bytes as hex digits.
-pub fn put_hex(out: &mut [u8], at: usize, bytes: &[u8]) -> usize
-    requires { at + 2 * length bytes.now ≤ length out.old }
-    ensures { Wrote out.old at (hex_text bytes.now) (2 * length bytes.now) result out.new }
-{
-    let mut to = at;
-    let mut i: usize = 0;
-    while i < bytes.len() {
-        to = put_pair(out, to, bytes[i]);
-        i = i + 1;
-    }
-    to
-}
-
-fn low_byte(n: u64) -> u8
-    ensures { result ≡ n % 256 }
-{
-    (n % 256) as u8
 }
 
 // A number of 64 bits as 16 hex digits.
-fn put_word(out: &mut [u8], at: usize, n: u64) -> usize
-    requires { at + 16 ≤ length out.old }
-    ensures { Wrote out.old at (word_text n) 16 result out.new }
+fn put_word<const N: usize>(out: &mut Output<N>, n: u64)
+    requires { length out.old + 16 ≤ N }
+    ensures text { out.new ≡ out.old ++ word_text n }
+    ensures short { length out.new ≤ length out.old + 16 }
 {
-    let bytes = [
-        low_byte(n / 72057594037927936),
-        low_byte(n / 281474976710656),
-        low_byte(n / 1099511627776),
-        low_byte(n / 4294967296),
-        low_byte(n / 16777216),
-        low_byte(n / 65536),
-        low_byte(n / 256),
-        low_byte(n),
-    ];
-    put_hex(out, at, &bytes)
+    put_hex(out, &n.to_be_bytes());
 }
 
 // A checksum, and the end of the line.
-pub fn put_checksum(out: &mut [u8], at: usize, c: Checksum) -> usize
-    requires { at + 65 ≤ length out.old }
-    ensures { Wrote out.old at (checksum_text (checksum_of c) ++ (10 ∷ [])) 65 result out.new }
+pub fn put_checksum<const N: usize>(out: &mut Output<N>, c: Checksum)
+    requires { length out.old + 65 ≤ N }
+    ensures text { out.new ≡ out.old ++ (checksum_text (checksum_of c) ++ 10 ∷ []) }
+    ensures short { length out.new ≤ length out.old + 65 }
 {
-    let a = put_word(out, at, c.a);
-    let b = put_word(out, a, c.b);
-    let d = put_word(out, b, c.c);
-    let e = put_word(out, d, c.d);
-    tables::put_bytes(out, e, b"\n")
+    put_word(out, c.a);
+    put_word(out, c.b);
+    put_word(out, c.c);
+    put_word(out, c.d);
+    out.put(b"\n");
 }
 
 // Version, group and replica, a space behind each.
-fn put_owner(out: &mut [u8], at: usize, version: u32, identity: RaftReplicaIdentity) -> usize
-    requires { at + 63 ≤ length out.old }
-    ensures { Wrote out.old at (owner_text version (identity_of identity)) 63 result out.new }
+fn put_owner(out: &mut Output<65536>, version: u32, identity: RaftReplicaIdentity)
+    requires { length out.old + 63 ≤ 65536 }
+    ensures text { out.new ≡ out.old ++ owner_text version (identity_of identity) }
+    ensures short { length out.new ≤ length out.old + 63 }
 {
-    let a = tables::put_number(out, at, version as u64, b' ');
-    tables::put_identity(out, a, identity)
+    out.put_number(version as u64, b' ');
+    out.put_identity(identity);
 }
 
 // 'A' adds a learner, 'P' promotes, 'R' removes; a space behind it.
-fn put_change(out: &mut [u8], at: usize, kind: ConfChangeKind) -> usize
-    requires { at + 2 ≤ length out.old }
-    ensures { Wrote out.old at (change_letter (change_of kind) ∷ 32 ∷ []) 2 result out.new }
+fn put_change<const N: usize>(out: &mut Output<N>, kind: ConfChangeKind)
+    requires { length out.old + 2 ≤ N }
+    ensures text { out.new ≡ out.old ++ change_letter (change_of kind) ∷ 32 ∷ [] }
+    ensures short { length out.new ≤ length out.old + 2 }
 {
     match kind {
-        ConfChangeKind::AddLearner => tables::put_bytes(out, at, b"A "),
-        ConfChangeKind::PromoteLearner => tables::put_bytes(out, at, b"P "),
-        ConfChangeKind::RemoveReplica => tables::put_bytes(out, at, b"R "),
+        ConfChangeKind::AddLearner => out.put(b"A "),
+        ConfChangeKind::PromoteLearner => out.put(b"P "),
+        ConfChangeKind::RemoveReplica => out.put(b"R "),
     }
 }
 
 // N number
-fn put_normal(out: &mut [u8], at: usize, number: u64) -> usize
-    requires { at + 23 ≤ length out.old }
-    ensures { Wrote out.old at (row (normal_fields number)) 23 result out.new }
+fn put_normal(out: &mut Output<65536>, number: u64)
+    requires { length out.old + 23 ≤ 65536 }
+    ensures text { out.new ≡ out.old ++ row (normal_fields number) }
+    ensures short { length out.new ≤ length out.old + 23 }
 {
-    let a = tables::put_bytes(out, at, b"N ");
-    tables::put_number(out, a, number, b'\n')
+    out.put(b"N ");
+    out.put_number(number, b'\n');
 }
 
 // A|P|R version replica
-pub fn put_configuration(
-    out: &mut [u8],
-    at: usize,
+pub fn put_configuration<const N: usize>(
+    out: &mut Output<N>,
     kind: ConfChangeKind,
     version: u64,
     replica: u64,
-) -> usize
-    requires { at + 44 ≤ length out.old }
-    ensures { Wrote out.old at (row (change_fields (change_of kind) version replica)) 44 result out.new }
+)
+    requires { length out.old + 44 ≤ N }
+    ensures text { out.new ≡ out.old ++ row (change_fields (change_of kind) version replica) }
+    ensures short { length out.new ≤ length out.old + 44 }
 {
-    let a = put_change(out, at, kind);
-    let b = tables::put_number(out, a, version, b' ');
-    tables::put_number(out, b, replica, b'\n')
+    put_change(out, kind);
+    out.put_number(version, b' ');
+    out.put_number(replica, b'\n');
 }
 
 // The payload, and the end of the line.
-fn put_payload(
-    out: &mut [u8],
-    at: usize,
-    payload: DurableRaftEntryPayload,
-    commands: usize,
-    lens: &[u8],
-    lent: &[u8],
-) -> usize
-    requires { at + 44 ≤ length out.old }
-    ensures { Wrote out.old at (row (payload_fields payload (commands_in commands lens.now lent.now) lent.now)) 44 result out.new }
+fn put_payload<'a>(out: &mut Output<65536>, payload: DurableRaftEntryPayload, given: &Commands<'a>)
+    requires { length out.old + 44 ≤ 65536 }
+    ensures text { out.new ≡ out.old ++ row (payload_fields payload given.now.commands given.now.lent) }
+    ensures short { length out.new ≤ length out.old + 44 }
 {
     match payload {
         DurableRaftEntryPayload::Normal { place, len } => {
-            put_normal(out, at, number_of(place, len, commands, lens, lent))
+            put_normal(out, given.number_of(place, len))
         }
         DurableRaftEntryPayload::Configuration {
             kind,
             expected_version,
             replica_id,
-        } => put_configuration(out, at, kind, expected_version, replica_id.0),
+        } => put_configuration(out, kind, expected_version, replica_id.0),
     }
 }
 
 // E version group replica index term, then the payload
-fn put_entry(
-    out: &mut [u8],
-    at: usize,
-    e: RaftLogEntryRecord,
-    commands: usize,
-    lens: &[u8],
-    lent: &[u8],
-) -> usize
-    requires { at + 151 ≤ length out.old }
-    ensures { Wrote out.old at (entry_text e (commands_in commands lens.now lent.now) lent.now) 151 result out.new }
+fn put_entry<'a>(out: &mut Output<65536>, e: RaftLogEntryRecord, given: &Commands<'a>)
+    requires { length out.old + 151 ≤ 65536 }
+    ensures text { out.new ≡ out.old ++ entry_text e given.now.commands given.now.lent }
+    ensures short { length out.new ≤ length out.old + 151 }
 {
-    let identity = e.identity;
-    let payload = e.payload;
-    let a = tables::put_bytes(out, at, b"E ");
-    let b = put_owner(out, a, e.format_version, identity);
-    let c = tables::put_number(out, b, e.index, b' ');
-    let d = tables::put_number(out, c, e.term, b' ');
-    put_payload(out, d, payload, commands, lens, lent)
+    out.put(b"E ");
+    put_owner(out, e.format_version, e.identity);
+    out.put_number(e.index, b' ');
+    out.put_number(e.term, b' ');
+    put_payload(out, e.payload, given);
 }
 
 // H version group replica term vote commit
-fn put_hard_state(out: &mut [u8], at: usize, r: RaftHardStateRecord) -> usize
-    requires { at + 128 ≤ length out.old }
-    ensures { Wrote out.old at (hard_state_line r.format_version (identity_of r.identity) (hard_state_of r.hard_state)) 128 result out.new }
+fn put_hard_state(out: &mut Output<65536>, r: RaftHardStateRecord)
+    requires { length out.old + 128 ≤ 65536 }
+    ensures text { out.new ≡ out.old ++ hard_state_line r.format_version (identity_of r.identity) (hard_state_of r.hard_state) }
+    ensures short { length out.new ≤ length out.old + 128 }
 {
-    let identity = r.identity;
-    let hard_state = r.hard_state;
-    let a = tables::put_bytes(out, at, b"H ");
-    let b = put_owner(out, a, r.format_version, identity);
-    tables::put_hard_state(out, b, hard_state)
+    out.put(b"H ");
+    put_owner(out, r.format_version, r.identity);
+    out.put_hard_state(r.hard_state);
 }
 
 // ID, index, term, applied, size and rest of a pointer, a space behind each.
-pub fn put_snapshot(out: &mut [u8], at: usize, p: RaftSnapshotPointerRecord) -> usize
-    requires { at + 126 ≤ length out.old }
-    ensures { Wrote out.old at (snapshot_text (pointer_of p)) 126 result out.new }
+pub fn put_snapshot<const N: usize>(out: &mut Output<N>, p: RaftSnapshotPointerRecord)
+    requires { length out.old + 126 ≤ N }
+    ensures text { out.new ≡ out.old ++ snapshot_text (pointer_of p) }
+    ensures short { length out.new ≤ length out.old + 126 }
 {
-    let a = tables::put_number(out, at, p.snapshot_id, b' ');
-    let b = tables::put_number(out, a, p.last_included_index, b' ');
-    let c = tables::put_number(out, b, p.last_included_term, b' ');
-    let d = tables::put_number(out, c, p.applied_index, b' ');
-    let e = tables::put_number(out, d, p.size_bytes, b' ');
-    tables::put_number(out, e, p.rest, b' ')
+    out.put_number(p.snapshot_id, b' ');
+    out.put_number(p.last_included_index, b' ');
+    out.put_number(p.last_included_term, b' ');
+    out.put_number(p.applied_index, b' ');
+    out.put_number(p.size_bytes, b' ');
+    out.put_number(p.rest, b' ');
 }
 
 // P version group replica ID index term applied size rest checksum
-fn put_pointer(out: &mut [u8], at: usize, p: RaftSnapshotPointerRecord) -> usize
-    requires { at + 256 ≤ length out.old }
-    ensures { Wrote out.old at (pointer_line (identity_of p.identity) (pointer_of p)) 256 result out.new }
+fn put_pointer(out: &mut Output<65536>, p: RaftSnapshotPointerRecord)
+    requires { length out.old + 256 ≤ 65536 }
+    ensures text { out.new ≡ out.old ++ pointer_line (identity_of p.identity) (pointer_of p) }
+    ensures short { length out.new ≤ length out.old + 256 }
 {
-    let identity = p.identity;
-    let checksum = p.checksum;
-    let a = tables::put_bytes(out, at, b"P ");
-    let b = put_owner(out, a, p.format_version, identity);
-    let c = put_snapshot(out, b, p);
-    put_checksum(out, c, checksum)
+    out.put(b"P ");
+    put_owner(out, p.format_version, p.identity);
+    put_snapshot(out, p);
+    put_checksum(out, p.checksum);
 }
 
 // A replica's record.
-fn put_raft(
-    out: &mut [u8],
-    at: usize,
-    r: RaftWalRecord,
-    commands: usize,
-    lens: &[u8],
-    lent: &[u8],
-) -> usize
-    requires { at + 256 ≤ length out.old }
-    ensures { Wrote out.old at (raft_text r (commands_in commands lens.now lent.now) lent.now) 256 result out.new }
+fn put_raft<'a>(out: &mut Output<65536>, r: RaftWalRecord, given: &Commands<'a>)
+    requires { length out.old + 256 ≤ 65536 }
+    ensures text { out.new ≡ out.old ++ raft_text r given.now.commands given.now.lent }
+    ensures short { length out.new ≤ length out.old + 256 }
 {
     match r {
-        RaftWalRecord::Entry(e) => put_entry(out, at, e, commands, lens, lent),
-        RaftWalRecord::HardState(h) => put_hard_state(out, at, h),
-        RaftWalRecord::SnapshotPointer(p) => put_pointer(out, at, p),
+        RaftWalRecord::Entry(e) => put_entry(out, e, given),
+        RaftWalRecord::HardState(h) => put_hard_state(out, h),
+        RaftWalRecord::SnapshotPointer(p) => put_pointer(out, p),
     }
 }
 
 // A record; the blank one is no line.
-fn put_record(
-    out: &mut [u8],
-    at: usize,
-    r: PreparedRecord,
-    commands: usize,
-    lens: &[u8],
-    lent: &[u8],
-) -> usize
-    requires { at + 256 ≤ length out.old }
-    ensures { Wrote out.old at (record_text r.body (commands_in commands lens.now lent.now) lent.now) 256 result out.new }
+fn put_record<'a>(out: &mut Output<65536>, r: PreparedRecord, given: &Commands<'a>)
+    requires { length out.old + 256 ≤ 65536 }
+    ensures text { out.new ≡ out.old ++ record_text r.body given.now.commands given.now.lent }
+    ensures short { length out.new ≤ length out.old + 256 }
 {
-    let body = r.body;
-    let RecordBody::Raft(k) = body else {
-        return tables::put_bytes(out, at, b"");
-    };
-    put_raft(out, at, k, commands, lens, lent)
-}
-
-// The records of a prepared batch in order, at most 34.
-fn put_records(
-    out: &mut [u8],
-    records: [PreparedRecord; 34],
-    count: usize,
-    commands: usize,
-    lens: &[u8],
-    lent: &[u8],
-) -> usize
-    requires { (count ≤ 34) × (8704 ≤ length out.old) }
-    ensures { Wrote out.old 0 (record_texts records count (commands_in commands lens.now lent.now) lent.now) 8704 result out.new }
-{
-    let mut to: usize = 0;
-    let mut i: usize = 0;
-    while i < count {
-        let r = records[i];
-        to = put_record(out, to, r, commands, lens, lent);
-        i = i + 1;
+    if let Some(raft) = r.body {
+        put_raft(out, raft, given);
     }
-    to
 }
 
-// refused NUMBER
-fn put_refused(out: &mut [u8], number: u64) -> usize
-    requires { 29 ≤ length out.old }
-    ensures { Wrote out.old 0 (refused_batch number) 29 result out.new }
-{
-    let a = tables::put_bytes(out, 0, b"refused ");
-    tables::put_number(out, a, number, b'\n')
-}
-
-// What preparing answered, at the start of `out`: answers how many bytes it is.
+// What preparing answered: a refusal, or the records in order, at most 34.
+#[tactic(auto, using(tables::proofs::Text::lines_step), unfolding(tables::specs::Tables::row, tables::specs::Model::lines_to, crate::specs::Model::prepared_text))]
 pub fn write_prepared(
     prepared: PreparedBatch,
     commands: usize,
     lens: &[u8],
     lent: &[u8],
-    out: &mut [u8; 65536],
-) -> usize
-    ensures { Printed out.old (prepared_text prepared (commands_in commands lens.now lent.now) lent.now) result out.new }
+    out: &mut Output<65536>,
+)
+    ensures { out.new ≡ prepared_text prepared (commands_in commands lens.now lent.now) lent.now }
 {
-    let answer = prepared.answer;
-    if let Prepared::Refused(why) = answer {
-        return put_refused(out, why.number());
+    out.clear();
+    if let Err(why) = prepared.answer {
+        out.put_count(b"refused ", why.number() as usize);
+        return;
     }
-    let records = prepared.records;
-    let count = tables::at_most(prepared.count, 34);
-    put_records(out, records, count, commands, lens, lent)
+    let given = Commands {
+        count: commands,
+        lens,
+        lent,
+    };
+    for i in 0..prepared.count.min(34) {
+        put_record(out, prepared.records[i], &given);
+    }
 }
 
 // journal refused LSN NUMBER
-pub fn write_journal_refused(lsn: u64, number: u64, out: &mut [u8; 65536]) -> usize
-    ensures { Printed out.old (journal_refused lsn number) result out.new }
+pub fn write_journal_refused(lsn: u64, number: u64, out: &mut Output<65536>)
+    ensures { out.new ≡ journal_refused lsn number }
 {
-    let a = tables::put_bytes(out, 0, b"journal refused ");
-    let b = tables::put_number(out, a, lsn, b' ');
-    tables::put_number(out, b, number, b'\n')
+    out.clear();
+    out.put(b"journal refused ");
+    out.put_number(lsn, b' ');
+    out.put_number(number, b'\n');
 }
 
 // The word for where a command is from.
-fn put_source(out: &mut [u8], at: usize, of_batch: bool) -> usize
-    requires { at + 5 ≤ length out.old }
-    ensures { Wrote out.old at (source_word of_batch) 5 result out.new }
+fn put_source(out: &mut Output<65536>, of_batch: bool)
+    requires { length out.old + 5 ≤ 65536 }
+    ensures text { out.new ≡ out.old ++ source_word of_batch }
+    ensures short { length out.new ≤ length out.old + 5 }
 {
     if of_batch {
-        return tables::put_bytes(out, at, b"batch");
+        out.put(b"batch");
+    } else {
+        out.put(b"log");
     }
-    tables::put_bytes(out, at, b"log")
 }
 
 // A space and the bytes in hex, nothing where there is no byte; and the end of the line.
-fn put_command(out: &mut [u8], at: usize, bytes: &[u8]) -> usize
-    requires { (at + 130 ≤ length out.old) × (length bytes.now ≤ 64) }
-    ensures { Wrote out.old at (command_text bytes.now) 130 result out.new }
+fn put_command(out: &mut Output<65536>, bytes: &[u8])
+    requires { (length out.old + 130 ≤ 65536) × (length bytes.now ≤ 64) }
+    ensures text { out.new ≡ out.old ++ command_text bytes.now }
+    ensures short { length out.new ≤ length out.old + 130 }
 {
-    if bytes.len() == 0 {
-        return tables::put_bytes(out, at, b"\n");
+    if !bytes.is_empty() {
+        out.put(b" ");
+        put_hex(out, bytes);
     }
-    let a = tables::put_bytes(out, at, b" ");
-    let b = put_hex(out, a, bytes);
-    tables::put_bytes(out, b, b"\n")
+    out.put(b"\n");
 }
 
 // shown INDEX log|batch [HEX], of the first 64 bytes: no kept command has more
-pub fn write_shown(index: u64, of_batch: bool, bytes: &[u8], out: &mut [u8; 65536]) -> usize
-    ensures { Printed out.old (shown_line index of_batch (take 64 bytes.now)) result out.new }
+pub fn write_shown(index: u64, of_batch: bool, bytes: &[u8], out: &mut Output<65536>)
+    ensures { out.new ≡ shown_line index of_batch (take 64 bytes.now) }
 {
-    let a = tables::put_bytes(out, 0, b"shown ");
-    let b = tables::put_number(out, a, index, b' ');
-    let c = put_source(out, b, of_batch);
-    put_command(out, c, shown::part(bytes, 0, 64))
+    out.clear();
+    out.put(b"shown ");
+    out.put_number(index, b' ');
+    put_source(out, of_batch);
+    put_command(out, shown::part(bytes, 0, 64));
 }
 
 // minimum LSN, or minimum -
-pub fn write_minimum(lsn: MaybeLsn, out: &mut [u8; 65536]) -> usize
-    ensures { Printed out.old (minimum_line (lsn_of lsn)) result out.new }
+pub fn write_minimum(lsn: Option<Lsn>, out: &mut Output<65536>)
+    ensures { out.new ≡ minimum_line (lsn_of lsn) }
 {
-    let a = tables::put_bytes(out, 0, b"minimum ");
-    let MaybeLsn::Some(least) = lsn else {
-        return tables::put_bytes(out, a, b"-\n");
-    };
-    tables::put_number(out, a, least.0, b'\n')
+    out.clear();
+    out.put(b"minimum ");
+    match lsn {
+        None => out.put(b"-\n"),
+        Some(least) => out.put_number(least.0, b'\n'),
+    }
 }

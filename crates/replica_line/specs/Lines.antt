@@ -1,7 +1,6 @@
 -- A replica's line, over the definition, as ASCII bytes: numbers in decimal, `-` for none, single spaces, and a newline at its end.
 -- Assumes nothing.
-use Rattle.std.specs.Prelude.{ℕ, List, [], ◌∷◌, ◌++◌}
-use Rattle.std.proofs.Math.Option.{Option, none, some}
+use Rattle.std.specs.Prelude.{ℕ, List, [], ◌∷◌, ◌++◌, Option, None, Some}
 use Rattle.definition.specs.Records.{Identity, HardState}
 use Rattle.definition.specs.Frontier.{RaftProgress}
 use Rattle.definition.specs.Log.{Log, count, first_index, last_index, snapshot_boundary, first_retained_lsn}
@@ -67,16 +66,16 @@ pub record Line : Type 0 where
 
 -- Zeros where there is no boundary.
 abbrev pub boundary_fields : Option (ℕ × ℕ) → List (List ℕ)
-boundary_fields none = boundary_word ∷ decimal 0 ∷ decimal 0 ∷ []
-boundary_fields (some (index, term)) = boundary_word ∷ decimal index ∷ decimal term ∷ []
+boundary_fields None = boundary_word ∷ decimal 0 ∷ decimal 0 ∷ []
+boundary_fields (Some (index, term)) = boundary_word ∷ decimal index ∷ decimal term ∷ []
 
 abbrev pub progress_fields : RaftProgress → List (List ℕ)
 progress_fields p = progress_word ∷ decimal p.truncated_through_index ∷ decimal p.truncated_through_term ∷ decimal p.applied_index ∷ []
 
 -- Current term, vote, commit.
 abbrev pub kept_fields : Option HardState → List (List ℕ)
-kept_fields none = hard_word ∷ (45 ∷ []) ∷ []
-kept_fields (some h) = hard_word ∷ hard_fields (some h)
+kept_fields None = hard_word ∷ (45 ∷ []) ∷ []
+kept_fields (Some h) = hard_word ∷ hard_fields (Some h)
 
 abbrev pub position_fields : Line → List (List ℕ)
 position_fields l =

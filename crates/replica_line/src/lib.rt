@@ -1,163 +1,162 @@
 // A replica's line, as the program `steps` prints it: decimal numbers, `-` for none, single spaces, a newline (10) at its end.
-#![tactic(auto)]
+#![tactic(auto, unfolding(tables::specs::Tables::row, crate::specs::Model::spaced_all))]
 
 ghost use Rattle.std.specs.Prelude.{◌≡◌, [], ◌∷◌, ◌++◌, ◌+◌, ◌≤◌, length};
 ghost use Rattle.frontier.specs.Progress.{progress_of};
 ghost use Rattle.ids.specs.Identity.{identity_of};
 ghost use Rattle.codec.specs.Records.{maybe_hard_state_of};
 ghost use Rattle.view.specs.Meaning.{lsn_of};
-ghost use Rattle.view.specs.Readers.{maybe_index_of, maybe_boundary_of};
 ghost use Rattle.tables.specs.Tables.{decimal, row, vote_field as maybeField};
-ghost use Rattle.tables.specs.Model.{Wrote};
 ghost use Rattle.replica_line.specs.Lines.{replica_word, commit_word, boundary_fields, progress_fields, kept_fields, position_fields, lsn_fields, range_fields, replica_line};
 ghost use Rattle.replica_line.specs.Model.{spaced_all, line_in};
 
-use codec::MaybeHardState;
+use codec::HardState;
 use frontier::RaftProgress;
-use ids::RaftReplicaIdentity;
-use view::{Header, MaybeBoundary, MaybeIndex, MaybeLsn, RecoveredRaftLogEntry};
+use ids::{Lsn, RaftReplicaIdentity};
+use tables::Output;
+use view::{Header, RecoveredRaftLogEntry};
 
 // An LSN as a number.
-pub fn number_in(lsn: MaybeLsn) -> MaybeIndex
-    ensures { maybe_index_of result ≡ lsn_of lsn }
+pub fn number_in(lsn: Option<Lsn>) -> Option<u64>
+    ensures { result ≡ lsn_of lsn }
 {
-    let MaybeLsn::Some(l) = lsn else {
-        return MaybeIndex::None;
-    };
-    MaybeIndex::Some(l.0)
+    let Lsn(n) = lsn?;
+    Some(n)
 }
 
 // A number, `-` for none, and the byte that ends it.
-pub fn put_maybe(out: &mut [u8], at: usize, n: MaybeIndex, end: u8) -> usize
-    requires { at + 21 ≤ length out.old }
-    ensures { Wrote out.old at (maybeField (maybe_index_of n) ++ (end ∷ [])) 21 result out.new }
+pub fn put_maybe(out: &mut Output<131072>, n: Option<u64>, end: u8)
+    requires { length out.old + 21 ≤ 131072 }
+    ensures text { out.new ≡ out.old ++ (maybeField n ++ end ∷ []) }
+    ensures short { length out.new ≤ length out.old + 21 }
 {
-    let MaybeIndex::Some(index) = n else {
-        let none = [b'-', end];
-        return tables::put_bytes(out, at, &none);
-    };
-    tables::put_number(out, at, index, end)
+    match n {
+        None => out.put(&[b'-', end]),
+        Some(n) => out.put_number(n, end),
+    }
 }
 
 // A word with a space behind it, an LSN, and a space.
-fn put_named(out: &mut [u8], at: usize, word: &[u8], lsn: MaybeLsn) -> usize
-    requires { (length word.now ≤ 12) × (at + 33 ≤ length out.old) }
-    ensures { Wrote out.old at (word.now ++ (maybeField (lsn_of lsn) ++ (32 ∷ []))) 33 result out.new }
+fn put_named(out: &mut Output<131072>, word: &[u8], lsn: Option<Lsn>)
+    requires { (length word.now ≤ 12) × (length out.old + 33 ≤ 131072) }
+    ensures text { out.new ≡ out.old ++ (word.now ++ (maybeField (lsn_of lsn) ++ 32 ∷ [])) }
+    ensures short { length out.new ≤ length out.old + 33 }
 {
-    let n = number_in(lsn);
-    let a = tables::put_bytes(out, at, word);
-    put_maybe(out, a, n, b' ')
+    out.put(word);
+    put_maybe(out, number_in(lsn), b' ');
 }
 
 // boundary INDEX TERM, zeros where there is none
-fn put_boundary(out: &mut [u8], at: usize, boundary: MaybeBoundary) -> usize
-    requires { at + 51 ≤ length out.old }
-    ensures { Wrote out.old at (spaced_all (boundary_fields (maybe_boundary_of boundary))) 51 result out.new }
+#[tactic(auto, unfolding(crate::specs::Model::spaced_all, tables::specs::Tables::decimal, tables::specs::Tables::digits_within))]
+fn put_boundary(out: &mut Output<131072>, boundary: Option<(u64, u64)>)
+    requires { length out.old + 51 ≤ 131072 }
+    ensures text { out.new ≡ out.old ++ spaced_all (boundary_fields boundary) }
+    ensures short { length out.new ≤ length out.old + 51 }
 {
-    let MaybeBoundary::Some { index, term } = boundary else {
-        return tables::put_bytes(out, at, b"boundary 0 0 ");
-    };
-    let behind = tables::put_bytes(out, at, b"boundary ");
-    let next = tables::put_number(out, behind, index, b' ');
-    tables::put_number(out, next, term, b' ')
+    match boundary {
+        None => out.put(b"boundary 0 0 "),
+        Some((index, term)) => {
+            out.put(b"boundary ");
+            out.put_number(index, b' ');
+            out.put_number(term, b' ');
+        }
+    }
 }
 
 // progress INDEX TERM APPLIED
-fn put_progress(out: &mut [u8], at: usize, progress: RaftProgress) -> usize
-    requires { at + 72 ≤ length out.old }
-    ensures { Wrote out.old at (spaced_all (progress_fields (progress_of progress))) 72 result out.new }
+fn put_progress(out: &mut Output<131072>, progress: RaftProgress)
+    requires { length out.old + 72 ≤ 131072 }
+    ensures text { out.new ≡ out.old ++ spaced_all (progress_fields (progress_of progress)) }
+    ensures short { length out.new ≤ length out.old + 72 }
 {
-    let a = tables::put_bytes(out, at, b"progress ");
-    let b = tables::put_number(out, a, progress.truncated_through_index, b' ');
-    let c = tables::put_number(out, b, progress.truncated_through_term, b' ');
-    tables::put_number(out, c, progress.applied_index, b' ')
+    out.put(b"progress ");
+    out.put_number(progress.truncated_through_index, b' ');
+    out.put_number(progress.truncated_through_term, b' ');
+    out.put_number(progress.applied_index, b' ');
 }
 
 // hard TERM VOTE COMMIT
-fn put_hard_state(out: &mut [u8], at: usize, kept: MaybeHardState) -> usize
-    requires { at + 68 ≤ length out.old }
-    ensures { Wrote out.old at (spaced_all (kept_fields (maybe_hard_state_of kept))) 68 result out.new }
+fn put_hard_state(out: &mut Output<131072>, kept: Option<HardState>)
+    requires { length out.old + 68 ≤ 131072 }
+    ensures text { out.new ≡ out.old ++ spaced_all (kept_fields (maybe_hard_state_of kept)) }
+    ensures short { length out.new ≤ length out.old + 68 }
 {
-    let MaybeHardState::Some(hard_state) = kept else {
-        return tables::put_bytes(out, at, b"hard - ");
-    };
-    let vote = hard_state.voted_for;
-    let a = tables::put_bytes(out, at, b"hard ");
-    let b = tables::put_number(out, a, hard_state.current_term, b' ');
-    let c = tables::put_vote(out, b, vote);
-    tables::put_number(out, c, hard_state.commit, b' ')
+    match kept {
+        None => out.put(b"hard - "),
+        Some(hard_state) => {
+            out.put(b"hard ");
+            out.put_number(hard_state.current_term, b' ');
+            out.put_vote(hard_state.voted_for);
+            out.put_number(hard_state.commit, b' ');
+        }
+    }
 }
 
 // replica GROUP REPLICA
-fn put_owner(out: &mut [u8], at: usize, identity: RaftReplicaIdentity) -> usize
-    requires { at + 50 ≤ length out.old }
-    ensures { Wrote out.old at (spaced_all (replica_word ∷ decimal (identity_of identity).group ∷ decimal (identity_of identity).replica ∷ [])) 50 result out.new }
+fn put_owner(out: &mut Output<131072>, identity: RaftReplicaIdentity)
+    requires { length out.old + 50 ≤ 131072 }
+    ensures text { out.new ≡ out.old ++ spaced_all (replica_word ∷ decimal (identity_of identity).group ∷ decimal (identity_of identity).replica ∷ []) }
+    ensures short { length out.new ≤ length out.old + 50 }
 {
-    let a = tables::put_bytes(out, at, b"replica ");
-    tables::put_identity(out, a, identity)
+    out.put(b"replica ");
+    out.put_identity(identity);
 }
 
 // commit INDEX
-fn put_commit(out: &mut [u8], at: usize, commit: u64) -> usize
-    requires { at + 28 ≤ length out.old }
-    ensures { Wrote out.old at (spaced_all (commit_word ∷ decimal commit ∷ [])) 28 result out.new }
+fn put_commit(out: &mut Output<131072>, commit: u64)
+    requires { length out.old + 28 ≤ 131072 }
+    ensures text { out.new ≡ out.old ++ spaced_all (commit_word ∷ decimal commit ∷ []) }
+    ensures short { length out.new ≤ length out.old + 28 }
 {
-    let a = tables::put_bytes(out, at, b"commit ");
-    tables::put_number(out, a, commit, b' ')
+    out.put(b"commit ");
+    out.put_number(commit, b' ');
 }
 
 // Whose replica it is, its boundary, its progress and the view's commit.
-fn put_position(out: &mut [u8], at: usize, h: Header, first: RecoveredRaftLogEntry) -> usize
-    requires { at + 201 ≤ length out.old }
-    ensures { Wrote out.old at (spaced_all (position_fields (line_in h first))) 201 result out.new }
+fn put_position(out: &mut Output<131072>, h: Header, first: RecoveredRaftLogEntry)
+    requires { length out.old + 201 ≤ 131072 }
+    ensures text { out.new ≡ out.old ++ spaced_all (position_fields (line_in h first)) }
+    ensures short { length out.new ≤ length out.old + 201 }
 {
-    let identity = h.identity;
-    let progress = h.progress;
-    let boundary = h.snapshot_boundary();
-    let a = put_owner(out, at, identity);
-    let b = put_boundary(out, a, boundary);
-    let c = put_progress(out, b, progress);
-    put_commit(out, c, h.committed_index)
+    put_owner(out, h.identity);
+    put_boundary(out, h.snapshot_boundary());
+    put_progress(out, h.progress);
+    put_commit(out, h.committed_index);
 }
 
 // The LSNs: of the hard state, of the pointer, the last replayed, and the least to recover from.
-fn put_lsns(out: &mut [u8], at: usize, h: Header, first: RecoveredRaftLogEntry) -> usize
-    requires { at + 132 ≤ length out.old }
-    ensures { Wrote out.old at (spaced_all (lsn_fields (line_in h first))) 132 result out.new }
+fn put_lsns(out: &mut Output<131072>, h: Header, first: RecoveredRaftLogEntry)
+    requires { length out.old + 132 ≤ 131072 }
+    ensures text { out.new ≡ out.old ++ spaced_all (lsn_fields (line_in h first)) }
+    ensures short { length out.new ≤ length out.old + 132 }
 {
-    let hard_state = h.hard_state_lsn;
-    let pointer = h.snapshot_pointer_lsn;
-    let replayed = h.last_replayed_lsn;
-    let minimum = readers::minimum_of(h, first);
-    let a = put_named(out, at, b"hard-lsn ", hard_state);
-    let b = put_named(out, a, b"pointer-lsn ", pointer);
-    let c = put_named(out, b, b"replayed ", replayed);
-    put_named(out, c, b"minimum ", minimum)
+    put_named(out, b"hard-lsn ", h.hard_state_lsn);
+    put_named(out, b"pointer-lsn ", h.snapshot_pointer_lsn);
+    put_named(out, b"replayed ", h.last_replayed_lsn);
+    put_named(out, b"minimum ", readers::minimum_of(h, first));
 }
 
 // log COUNT FIRST LAST RETAINED, and the end of the line
-fn put_range(out: &mut [u8], at: usize, h: Header, first: RecoveredRaftLogEntry) -> usize
-    requires { at + 88 ≤ length out.old }
-    ensures { Wrote out.old at (row (range_fields (line_in h first))) 88 result out.new }
+fn put_range(out: &mut Output<131072>, h: Header, first: RecoveredRaftLogEntry)
+    requires { length out.old + 88 ≤ 131072 }
+    ensures text { out.new ≡ out.old ++ row (range_fields (line_in h first)) }
+    ensures short { length out.new ≤ length out.old + 88 }
 {
-    let from = h.first_index();
-    let to = h.last_index();
-    let retained = number_in(h.first_retained_lsn(first));
-    let a = tables::put_bytes(out, at, b"log ");
-    let b = tables::put_number(out, a, h.len as u64, b' ');
-    let c = put_maybe(out, b, from, b' ');
-    let d = put_maybe(out, c, to, b' ');
-    put_maybe(out, d, retained, b'\n')
+    out.put(b"log ");
+    out.put_number(h.len as u64, b' ');
+    put_maybe(out, h.first_index(), b' ');
+    put_maybe(out, h.last_index(), b' ');
+    put_maybe(out, number_in(h.first_retained_lsn(first)), b'\n');
 }
 
 // A replica's line.
-pub fn put_line(out: &mut [u8], at: usize, h: Header, first: RecoveredRaftLogEntry) -> usize
-    requires { at + 489 ≤ length out.old }
-    ensures { Wrote out.old at (replica_line (line_in h first)) 489 result out.new }
+pub fn put_line(out: &mut Output<131072>, h: Header, first: RecoveredRaftLogEntry)
+    requires { length out.old + 489 ≤ 131072 }
+    ensures text { out.new ≡ out.old ++ replica_line (line_in h first) }
+    ensures short { length out.new ≤ length out.old + 489 }
 {
-    let kept = h.hard_state;
-    let a = put_position(out, at, h, first);
-    let b = put_hard_state(out, a, kept);
-    let c = put_lsns(out, b, h, first);
-    put_range(out, c, h, first)
+    put_position(out, h, first);
+    put_hard_state(out, h.hard_state);
+    put_lsns(out, h, first);
+    put_range(out, h, first);
 }

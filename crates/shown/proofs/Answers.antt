@@ -1,12 +1,13 @@
 -- What is shown, where state and store are sound and where they are not.
 -- Assumes nothing.
+use Rattle.std.specs.Prelude.{Option, Result, Ok, Err}
 use mathlib.Core.Path.{◌≡◌, refl, sym, ap, ◌∙◌}
 use mathlib.Core.Logic.{inl, inr}
 use mathlib.Core.Bool.{Bool, true, false, true≢false}
 use mathlib.Core.List.{List}
 use Prim.Native.Nat.{ℕ, ◌≤◌}
 use lib.ListN.{get_or}
-use Rattle.definition.specs.Table.{Result, ok, refusal, u64_max}
+use Rattle.definition.specs.Table.{u64_max}
 use Rattle.definition.specs.Records.{Identity}
 use Rattle.definition.specs.Log.{Log}
 use Rattle.definition.specs.Recovery.{replica_of, sound}
@@ -24,7 +25,6 @@ use Rattle.readers.proofs.Owns.{Owns}
 use Rattle.batches.specs.declared.RaftPersistenceBatch.{RaftPersistenceBatch}
 use Rattle.batches.specs.Meaning.{entries_of, batch_of}
 use Rattle.preview.specs.declared.Extended.{Extended}
-use Rattle.preview.specs.declared.Prepared.TheVariants as P
 use Rattle.preview.specs.Preview.{Ran, ran_of}
 use Rattle.persistence.specs.Prepares.{batch_records, Prepares}
 use Rattle.persistence.specs.Tries.{tried_on}
@@ -58,14 +58,14 @@ module _ (s : RecoveredRaftStorage) (st : List ℕ) (i : RaftReplicaIdentity) (b
   defined = M.previewed_at (recovery_of s st) own batch index
 
   -- What a preparation shows.
-  abbrev shown_for : Result M.Preview → M.Shown
+  abbrev shown_for : Result M.Preview ℕ → M.Shown
   shown_for r = M.shown_in own (meaning s st) batch r index
 
   previewed_unsound : sound (recovery_of s st) ≡ false → M.nothing ≡ defined
   unfolding M.previewed_at M.shown_in
   previewed_unsound u = sym (ap shown_for (prepare_unsound (recovery_of s st) own batch u))
 
-  previewed_sound : sound (recovery_of s st) ≡ true → (r : Result M.Preview) → M.prepare_on own batch was ≡ r → defined ≡ shown_for r
+  previewed_sound : sound (recovery_of s st) ≡ true → (r : Result M.Preview ℕ) → M.prepare_on own batch was ≡ r → defined ≡ shown_for r
   unfolding M.previewed_at
   previewed_sound w r e = ap shown_for (prepare_sound (recovery_of s st) own batch w ∙ e)
 
@@ -86,21 +86,21 @@ module _ (s : RecoveredRaftStorage) (st : List ℕ) (i : RaftReplicaIdentity) (b
 
     -- A refused preparation shows nothing, any other what its preview does.
     module _ (d : Extended) (e : ran_of d (tried_on s st i b lent o).bytes ≡ tried_on s st i b lent o) where
-      pub shows_refused : (why : Refusal) → d.answer ≡ P.Refused why → ShowsAt s st i b lent index (λ x. x) M.nothing
+      pub shows_refused : (why : Refusal) → d.answer ≡ Err why → ShowsAt s st i b lent index (λ x. x) M.nothing
       unfolding M.shown_in
       shows_refused why q = shows_sound M.nothing (go (tried w b lent small))
         where
           go : Asked → M.nothing ≡ defined
-          go (inl a) = sym (previewed_sound w.whole (refusal a.number) a.says)
-          go (inr a) = absurd (none_some (sym a.refused ∙ told_refused d ran (P.Refused why) e q))
+          go (inl a) = sym (previewed_sound w.whole (Err a.number) a.says)
+          go (inr a) = absurd (none_some (sym a.refused ∙ told_refused d ran (Err why) e q))
 
-      pub shows_ready : d.answer ≡ P.Ready → (r : Shown) → r ≡ shown_by o d.preview (M.supplied index (entries_of b.entries lent)) index
+      pub shows_ready : d.answer ≡ (Ok tt) → (r : Option Shown) → r ≡ shown_by o d.preview (M.supplied index (entries_of b.entries lent)) index
           → ShowsAt s st i b lent index (λ x. x) (shown_of r)
       shows_ready q r y =
           shows_sound (shown_of r)
           (ap shown_of y ∙ ap (λ (x : Ran). shown_of (shown_by o x.preview (M.supplied index (entries_of b.entries lent)) index)) e ∙ go (tried w b lent small))
         where
           go : Asked → shown_of (shown_by o ran.preview (M.supplied index (entries_of b.entries lent)) index) ≡ defined
-          go (inl a) = absurd (none_some (sym (told_refused d ran P.Ready e q) ∙ a.refused))
+          go (inl a) = absurd (none_some (sym (told_refused d ran (Ok tt) e q) ∙ a.refused))
           go (inr a) =
-              preview_shows s st i o w b lent index ran a.next a.stands a.says (entries_fit b lent small) ∙ sym (previewed_sound w.whole (ok a.next) a.says)
+              preview_shows s st i o w b lent index ran a.next a.stands a.says (entries_fit b lent small) ∙ sym (previewed_sound w.whole (Ok a.next) a.says)

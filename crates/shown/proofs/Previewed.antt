@@ -1,16 +1,15 @@
 -- What a tried batch shows of an index is what the definition shows.
 -- Assumes nothing.
+use Rattle.std.specs.Prelude.{Option, None, Some, unwrap_or, Ok}
 use mathlib.Core.Path.{◌≡◌, refl, sym, ap, subst, ◌∙◌}
 use mathlib.Core.Bool.{true}
 use mathlib.Core.List.{List}
-use mathlib.Core.Option
-use mathlib.Core.Option.{Option, none, some}
 use Prim.Native.Nat.{ℕ, ◌+◌, ◌*◌, ◌-◌, ◌<◌, ◌≤◌}
 use native.Mathlib.Omega.{arith}
 use borrow.Author.Tests.{lt-ltb, le-leb}
 use lib.ListN.{length, take, get_or}
 use lib.Seq.{length-take-le}
-use Rattle.definition.specs.Table.{ok, every, or_zero, u64_max}
+use Rattle.definition.specs.Table.{every, or_zero, u64_max}
 use Rattle.definition.specs.Records.{Identity}
 use Rattle.definition.specs.Log.{Entry, Log, empty, at, place}
 use Rattle.definition.specs.Recovery.{lookup, place_of, replica_of, held_clauses, sound_state, sound_store, sound}
@@ -25,8 +24,6 @@ use Rattle.store.proofs.Part.{length_part}
 use Rattle.view.specs.declared.EntryPayload.{EntryPayload}
 use Rattle.view.specs.declared.EntryPayload.TheVariants as Y
 use Rattle.view.specs.declared.Header.{Header}
-use Rattle.view.specs.declared.Place.{Place}
-use Rattle.view.specs.declared.Place.TheVariants as Q
 use Rattle.view.specs.declared.RecoveredRaftLogEntry.{RecoveredRaftLogEntry}
 use Rattle.view.specs.Meaning.{no_entry, size_of, payload_in, cell_at, entry_at, view_of, base_of}
 use Rattle.view.specs.Readers as R
@@ -55,9 +52,9 @@ replica_sound s st i e = go (lookup i (meaning s st).replicas) (every_lookup (so
     each : every (sound_held (meaning s st).last_scanned_lsn) (meaning s st).replicas ≡ true
     each = (state_facts (meaning s st) (and_l (sound_state (meaning s st)) (sound_store (recovery_of s st)) e)).each
 
-    go : (o : Option (Log ℕ)) → Keeps (sound_held (meaning s st).last_scanned_lsn) i o → SoundLog (Option.get_or o empty)
-    go none k = empty_sound
-    go (some v) k = log_facts v (all_facts (held_clauses (meaning s st).last_scanned_lsn (record { id = i; log = v })) k).1.0
+    go : (o : Option (Log ℕ)) → Keeps (sound_held (meaning s st).last_scanned_lsn) i o → SoundLog (unwrap_or o empty)
+    go None k = empty_sound
+    go (Some v) k = log_facts v (all_facts (held_clauses (meaning s st).last_scanned_lsn (record { id = i; log = v })) k).1.0
 
 -- The indices of a batch are machine numbers.
 pub entries_fit : (b : RaftPersistenceBatch) (lent : List ℕ) → ((n : ℕ) → get_or b.entries.index n 0 ≤ u64_max) → every index_fits (B.entries_of b.entries lent) ≡ true
@@ -87,8 +84,8 @@ module _ (s : RecoveredRaftStorage) (st : List ℕ) (i : RaftReplicaIdentity) (o
   own_place = go (place_of own (meaning s st).replicas) ∙ ap (λ (x : Own). x.place) (sym w.stands)
     where
       go : (x : Option ℕ) → or_zero (λ p. p) x ≡ (own_in s i x).place
-      go none = refl
-      go (some p) = refl
+      go None = refl
+      go (Some p) = refl
 
   store_place_lem : Holds was index → 4096 * o.place + 64 * look_of o.head index ≡ M.store_place own (meaning s st) index
   unfolding M.store_place
@@ -99,7 +96,7 @@ module _ (s : RecoveredRaftStorage) (st : List ℕ) (i : RaftReplicaIdentity) (o
       omega (arith, own_place, l)
 
   -- A payload, in its cell.
-  payload_shows : (y : EntryPayload) (cell : List ℕ) → size_of y ≤ 64 → length cell ≡ 64 → (from ≡ none → Holds was index)
+  payload_shows : (y : EntryPayload) (cell : List ℕ) → size_of y ≤ 64 → length cell ≡ 64 → (from ≡ None → Holds was index)
       → shown_of (payload_shown o from y index) ≡ M.shown_as from (M.store_place own (meaning s st) index) (payload_in y cell)
   payload_shows (Y.Configuration kind version replica) cell z l h = refl
   payload_shows (Y.Normal n) cell z l h = go from h
@@ -107,20 +104,20 @@ module _ (s : RecoveredRaftStorage) (st : List ℕ) (i : RaftReplicaIdentity) (o
       size : n ≡ length (take n cell)
       size = sym (length-take-le n cell (omega arith))
 
-      go : (x : Option ℕ) → (x ≡ none → Holds was index)
+      go : (x : Option ℕ) → (x ≡ None → Holds was index)
           → shown_of (payload_shown o x (Y.Normal n) index) ≡ M.shown_as x (M.store_place own (meaning s st) index) (payload_in (Y.Normal n) cell)
-      go (some f) k = ap (M.of_batch f) size
-      go none k = ap (λ (a : ℕ). M.of_log a n) (store_place_lem (k refl)) ∙ ap (M.of_log (M.store_place own (meaning s st) index)) size
+      go (Some f) k = ap (M.of_batch f) size
+      go None k = ap (λ (a : ℕ). M.of_log a n) (store_place_lem (k refl)) ∙ ap (M.of_log (M.store_place own (meaning s st) index)) size
 
   -- A preview that stands for the definition's.
-  module _ (x : Ran) (v : M.Preview) (k : Stands x v) (e : M.prepare_on own batch was ≡ ok v) (fit : every index_fits batch.entries ≡ true) where
+  module _ (x : Ran) (v : M.Preview) (k : Stands x v) (e : M.prepare_on own batch was ≡ Ok v) (fit : every index_fits batch.entries ≡ true) where
     abbrev p : Preview
     p = x.preview
 
     abbrev there : ℕ → Entry ℕ
     there = entry_at p.entries x.bytes
 
-    previewed_holds : (q : ℕ) → R.place_of p.head index ≡ Q.Held q → Holds v.log index
+    previewed_holds : (q : ℕ) → R.place_of p.head index ≡ Some q → Holds v.log index
     previewed_holds q a =
         let h : Held p.head index q = held_at_lem p.head index q a in
         subst (λ (g : Log ℕ). Holds g index) k.means.view (record {
@@ -128,22 +125,22 @@ module _ (s : RecoveredRaftStorage) (st : List ℕ) (i : RaftReplicaIdentity) (o
           below = omega (arith, h.index, h.below, base_is p.head p.entries x.bytes, count_is p.head p.entries x.bytes);
         })
 
-    held_before : (q : ℕ) → R.place_of p.head index ≡ Q.Held q → from ≡ none → Holds was index
+    held_before : (q : ℕ) → R.place_of p.head index ≡ Some q → from ≡ None → Holds was index
     held_before q a u = unsupplied own batch was index v (replica_sound s st own w.whole) fit u e (previewed_holds q a)
 
     abbrev shown_entry : Option (Entry ℕ) → M.Shown
-    shown_entry y = elim y [ none ↦ M.nothing | some g ↦ M.shown_as from (M.store_place own (meaning s st) index) g.payload ]
+    shown_entry y = elim y [ None ↦ M.nothing | Some g ↦ M.shown_as from (M.store_place own (meaning s st) index) g.payload ]
 
-    place_shows : (q : Place) → R.place_of p.head index ≡ q
+    place_shows : (q : Option ℕ) → R.place_of p.head index ≡ q
         → shown_of (place_shown q (payload_shown o from (get_or p.entries (look_of p.head index) no_entry).payload index)) ≡ shown_entry (R.at_place q there)
-    place_shows Q.None a = refl
-    place_shows (Q.Held q) a =
+    place_shows None a = refl
+    place_shows (Some q) a =
         let h : Held p.head index q = held_at_lem p.head index q a in
         let c : length (cell_at x.bytes q) ≡ 64 = length_part (64 * q) 64 x.bytes (omega (arith, h.below, k.means.fits.short, k.means.bytes)) in
         rw (look_held p.head index q k.means.fits.short a)
         (payload_shows (get_or p.entries q no_entry).payload (cell_at x.bytes q) (k.means.fits.sizes q h.below) c (held_before q a))
 
-    pub preview_shows : shown_of (shown_by o x.preview (M.supplied index (B.entries_of b.entries lent)) index) ≡ M.shown_in (identity_of i) (meaning s st) (B.batch_of b lent) (ok v) index
+    pub preview_shows : shown_of (shown_by o x.preview (M.supplied index (B.entries_of b.entries lent)) index) ≡ M.shown_in (identity_of i) (meaning s st) (B.batch_of b lent) (Ok v) index
     unfolding M.shown_in
     preview_shows =
         place_shows (R.place_of p.head index) refl

@@ -1,62 +1,38 @@
 -- The loop over a batch's entries finds what the latest of them supplies.
 -- Assumes nothing.
-use mathlib.Core.Path.{◌≡◌, refl, sym, ap, ◌∙◌}
-use mathlib.Core.List.{List, []}
-use mathlib.Core.Option.{Option, none, some}
-use Prim.Native.Nat.{ℕ, suc, ◌+◌, ◌<◌, ◌≤◌}
+use Rattle.std.specs.Prelude.{if◌then◌else◌, Option, None, Some}
+use mathlib.Core.Path.{◌≡◌, refl, ap, ◌∙◌}
+use mathlib.Core.Bool.{Bool, true, false}
+use mathlib.Core.List.{List, [], ◌∷◌, ◌++◌}
+use Prim.Native.Nat.{ℕ, ◌+◌}
 use native.Mathlib.Numerals.{add-one}
 use native.Mathlib.Omega.{arith}
-use lib.ListN.{length, get_or, drop}
-use lib.Seq.{drop-length}
-use Rattle.std.specs.Prelude.{if◌then◌else◌}
-use Rattle.definition.specs.Table.{is_some}
+use lib.ListN.{get_or}
+use lib.Seq.{take_all}
+use Rattle.definition.specs.Table.{◌=?◌, is_some}
 use Rattle.definition.specs.Batch.{BatchEntry, supplied}
+use Rattle.view.specs.Tab.{tab}
+use Rattle.view.proofs.Tab.{tab_cut, length_tab}
 use Rattle.batches.specs.declared.BatchEntries.{BatchEntries}
-use Rattle.batches.specs.Meaning.{entries_of}
-use Rattle.batches.proofs.Entries.{entries_count, entries_from_lem}
-use Rattle.shown.specs.declared.Supplied.{Supplied}
-use Rattle.shown.specs.declared.Supplied.TheVariants as U
-use Rattle.shown.specs.Shows.{supplied_of, own_from, later_of}
+use Rattle.batches.specs.Meaning.{entry_at}
 
-later_none : (o : Option ℕ) → o ≡ later_of none o
-later_none none = refl
-later_none (some n) = refl
+-- The latest of some entries and one more.
+supplied_last : (x : ℕ) (es : List BatchEntry) (e : BatchEntry) → supplied x (es ++ (e ∷ [])) ≡ (if e.log_entry.index =? x then Some e.from else supplied x es)
+supplied_last x [] e = refl
+supplied_last x (a ∷ es) e = ap (λ (o : Option ℕ). if is_some o then o else own) (supplied_last x es e) ∙ go (e.log_entry.index =? x)
+  where
+    own : Option ℕ
+    own = if a.log_entry.index =? x then Some a.from else None
 
-later_later : (found own l : Option ℕ) → later_of found (if is_some l then l else own) ≡ later_of (later_of found own) l
-later_later found own none = refl
-later_later found own (some n) = refl
+    go : (b : Bool) → (if is_some (if b then Some e.from else supplied x es) then (if b then Some e.from else supplied x es) else own)
+        ≡ (if b then Some e.from else (if is_some (supplied x es) then supplied x es else own))
+    go true = refl
+    go false = refl
 
--- The first i of n entries: what the rest supplies goes before what was found.
-pub record Supplying (es : BatchEntries) (index n : ℕ) (found : Supplied) (i : ℕ) : Type 0 where
-  pub all : n ≡ es.count
-  pub few : n ≤ 32
-  pub among : i ≤ n
-  pub whole : (lent : List ℕ) → supplied index (entries_of es lent) ≡ later_of (supplied_of found) (supplied index (drop i (entries_of es lent)))
-
-module _ (es : BatchEntries) (index : ℕ) where
-  pub supply_start : es.count ≤ 32 → Supplying es index es.count U.None 0
-  supply_start h = record { all = refl; few = h; among = omega arith; whole = λ lent. later_none (supplied index (entries_of es lent)) }
-
-  module _ (n : ℕ) (found : Supplied) (i : ℕ) (s : Supplying es index n found i) where
-    pub supply_turn : i < n → (own next : Supplied) → supplied_of own ≡ own_from (get_or es.index i 0) (get_or es.first i 0) index
-        → supplied_of next ≡ later_of (supplied_of found) (supplied_of own) → Supplying es index n next (i + 1)
-    supply_turn h own next a b = record { all = s.all; few = s.few; among = omega arith; whole = turn }
-      where
-        turn : (lent : List ℕ) → supplied index (entries_of es lent) ≡ later_of (supplied_of next) (supplied index (drop (i + 1) (entries_of es lent)))
-        turn lent =
-            let l : List BatchEntry = entries_of es lent in
-            let k : i < es.count = omega (arith, s.all) in
-            let o : Option ℕ = own_from (get_or es.index i 0) (get_or es.first i 0) index in
-            s.whole lent
-            ∙ ap (λ (r : List BatchEntry). later_of (supplied_of found) (supplied index r)) (entries_from_lem es lent i k)
-            ∙ later_later (supplied_of found) o (supplied index (drop (suc i) l))
-            ∙ ap (λ (x : Option ℕ). later_of (later_of (supplied_of found) x) (supplied index (drop (suc i) l))) (sym a)
-            ∙ ap (λ (x : Option ℕ). later_of x (supplied index (drop (suc i) l))) (sym b)
-            ∙ ap (λ (j : ℕ). later_of (supplied_of next) (supplied index (drop j l))) (sym (add-one i))
-
-    pub supply_end : n ≤ i → (lent : List ℕ) → supplied_of found ≡ supplied index (entries_of es lent)
-    supply_end h lent =
-        let l : List BatchEntry = entries_of es lent in
-        let k : i ≡ length l = omega (arith, s.all, s.among, entries_count es lent) in
-        let d : drop i l ≡ [] = ap (λ (j : ℕ). drop j l) k ∙ drop-length l in
-        sym (s.whole lent ∙ ap (λ (r : List BatchEntry). later_of (supplied_of found) (supplied index r)) d)
+pub supply_turn : (es : BatchEntries) (lent : List ℕ) (index i : ℕ)
+    → supplied index (tab (i + 1) (entry_at es lent)) ≡ (if get_or es.index i 0 =? index then Some (get_or es.first i 0) else supplied index (tab i (entry_at es lent)))
+supply_turn es lent index i =
+    let t : List BatchEntry = tab i (entry_at es lent) in
+    let k : tab (i + 1) (entry_at es lent) ≡ t ++ (entry_at es lent i ∷ []) =
+    rw add-one (tab_cut i i (entry_at es lent) (entry_at es lent) (omega arith) (λ j h. refl) ∙ ap (λ (l : List BatchEntry). l ++ (entry_at es lent i ∷ [])) (take_all i t (omega (arith, length_tab i (entry_at es lent))))) in
+    ap (supplied index) k ∙ supplied_last index t (entry_at es lent i)

@@ -3,12 +3,11 @@
 use mathlib.Core.Path.{◌≡◌, refl, sym, subst}
 use mathlib.Core.Bool.{Bool, true, false}
 use mathlib.Core.List.{List, [], ◌∷◌}
-use mathlib.Core.Option.{Option, none, some}
 use Prim.Native.Nat.{ℕ, ◌+◌, ◌<◌, ◌≤◌}
 use native.Mathlib.Omega.{arith}
 use borrow.Author.Tests.{eqb-true, eqb-false, leb-true, leb-false, not-false}
-use Rattle.std.specs.Prelude.{if◌then◌else◌}
-use Rattle.definition.specs.Table.{◌=?◌, ◌≠?◌, ◌<?◌, ◌≤?◌, Row, first_of, Result, ok, refusal, every, is_some, or_zero, if_some, u64_max}
+use Rattle.std.specs.Prelude.{if◌then◌else◌, Option, None, Some, Result, Ok, Err}
+use Rattle.definition.specs.Table.{◌=?◌, ◌≠?◌, ◌<?◌, ◌≤?◌, Row, first_of, every, is_some, or_zero, if_some, u64_max}
 use Rattle.definition.specs.Records.{Identity, LogEntry, HardState}
 use Rattle.definition.specs.Log.{Log, PointerRecord, base, count, last, is_held, kept_pointer, entry_at_or_below_snapshot, replay_rows, with_entry, with_pointer, with_hard}
 use Rattle.definition.specs.Batch.{BatchEntry, Batch, Preview, preview_pointer, preview_entry, preview_hard_state, previewed, batch_rows, batch_pointer_rows, batch_entry_rows, batch_hard_state_rows, hard_state_before_log_term, concluded, hardened, extended, pointed, prepare_on, supplied}
@@ -69,40 +68,40 @@ unfolding base count with_hard
 hard_holds h log x k = record { from = k.from; below = k.below }
 
 -- A part of a preparation that is accepted.
-accepted : (rows : List Row) (v w : Preview) (go : Preview → Result Preview) → previewed rows v go ≡ ok w → (first_of rows ≡ none) × (go v ≡ ok w)
+accepted : (rows : List Row) (v w : Preview) (go : Preview → Result Preview ℕ) → previewed rows v go ≡ Ok w → (first_of rows ≡ None) × (go v ≡ Ok w)
 accepted rows v w go = pick (first_of rows)
   where
-    pick : (o : Option ℕ) → ◌≡◌ {A = Result Preview} (elim o [ some n ↦ refusal n | none ↦ go v ]) (ok w) → (o ≡ none) × (go v ≡ ok w)
-    pick none z = (refl, z)
-    pick (some n) z = absurd (let y : ◌≡◌ {A = ℕ} 0 1 = cc in omega arith)
+    pick : (o : Option ℕ) → ◌≡◌ {A = Result Preview ℕ} (elim o [ Some n ↦ Err n | None ↦ go v ]) (Ok w) → (o ≡ None) × (go v ≡ Ok w)
+    pick None z = (refl, z)
+    pick (Some n) z = absurd (let y : ◌≡◌ {A = ℕ} 0 1 = cc in omega arith)
 
 -- What was not supplied by any is neither the first nor supplied by the others.
-unsupplied_cons : (x : ℕ) (e : BatchEntry) (es : List BatchEntry) → supplied x (e ∷ es) ≡ none → (supplied x es ≡ none) × ((e.log_entry.index =? x) ≡ false)
+unsupplied_cons : (x : ℕ) (e : BatchEntry) (es : List BatchEntry) → supplied x (e ∷ es) ≡ None → (supplied x es ≡ None) × ((e.log_entry.index =? x) ≡ false)
 unsupplied_cons x e es = go (supplied x es) (e.log_entry.index =? x)
   where
-    go : (o : Option ℕ) (b : Bool) → ◌≡◌ {A = Option ℕ} (if is_some o then o else (if b then some e.from else none)) none → (o ≡ none) × (b ≡ false)
-    go none true z = absurd (none_some (sym z))
-    go none false z = (refl, refl)
-    go (some n) b z = absurd (none_some (sym z))
+    go : (o : Option ℕ) (b : Bool) → ◌≡◌ {A = Option ℕ} (if is_some o then o else (if b then Some e.from else None)) None → (o ≡ None) × (b ≡ false)
+    go None true z = absurd (none_some (sym z))
+    go None false z = (refl, refl)
+    go (Some n) b z = absurd (none_some (sym z))
 
 module _ (i : Identity) (b : Batch) (was : Log ℕ) (x : ℕ) (w : Preview) where
-  concluded_holds : (v : Preview) → concluded i b was v ≡ ok w → Holds w.log x → Holds v.log x
+  concluded_holds : (v : Preview) → concluded i b was v ≡ Ok w → Holds w.log x → Holds v.log x
   unfolding concluded
   concluded_holds v z h =
-      let y : v ≡ w = same (accepted (hard_state_before_log_term b was v ∷ []) v w ok z).1 in
+      let y : v ≡ w = same (accepted (hard_state_before_log_term b was v ∷ []) v w Ok z).1 in
       subst (λ (u : Preview). Holds u.log x) (sym y) h
     where
-      same : ◌≡◌ {A = Result Preview} (ok v) (ok w) → v ≡ w
+      same : ◌≡◌ {A = Result Preview ℕ} (Ok v) (Ok w) → v ≡ w
       same q = cc
 
-  hardened_holds : (s : Option HardState) (v : Preview) → hardened i b was s v ≡ ok w → Holds w.log x → Holds v.log x
+  hardened_holds : (s : Option HardState) (v : Preview) → hardened i b was s v ≡ Ok w → Holds w.log x → Holds v.log x
   unfolding hardened
-  hardened_holds none v z h = concluded_holds v z h
-  hardened_holds (some s) v z h =
-      hard_holds (some s) v.log x
+  hardened_holds None v z h = concluded_holds v z h
+  hardened_holds (Some s) v z h =
+      hard_holds (Some s) v.log x
       (concluded_holds (preview_hard_state i s v) (accepted (batch_hard_state_rows i b was s v) (preview_hard_state i s v) w (concluded i b was) z).1 h)
 
-  extended_holds : (es : List BatchEntry) (v : Preview) → every index_fits es ≡ true → supplied x es ≡ none → extended i b was es v ≡ ok w → Holds w.log x → Holds v.log x
+  extended_holds : (es : List BatchEntry) (v : Preview) → every index_fits es ≡ true → supplied x es ≡ None → extended i b was es v ≡ Ok w → Holds w.log x → Holds v.log x
   unfolding extended batch_entry_rows
   extended_holds [] v m u z h = hardened_holds b.hard_state v z h
   extended_holds (e ∷ es) v m u z h =
@@ -112,11 +111,11 @@ module _ (i : Identity) (b : Batch) (was : Log ℕ) (x : ℕ) (w : Preview) wher
       entry_holds e.log_entry (v.lsn + 1) v.log x (leb-true e.log_entry.index u64_max (and_l (index_fits e) (every index_fits es) m)) c.1.1.1.1.1.1 n.1
       (extended_holds es (preview_entry i e.log_entry v) (and_r (index_fits e) (every index_fits es) m) n.0 a.1 h)
 
-  pointed_holds : (s : Option PointerRecord) (v : Preview) → v.log ≡ was → SoundLog was → every index_fits b.entries ≡ true → supplied x b.entries ≡ none
-      → pointed i b was s v ≡ ok w → Holds w.log x → Holds v.log x
+  pointed_holds : (s : Option PointerRecord) (v : Preview) → v.log ≡ was → SoundLog was → every index_fits b.entries ≡ true → supplied x b.entries ≡ None
+      → pointed i b was s v ≡ Ok w → Holds w.log x → Holds v.log x
   unfolding pointed batch_pointer_rows
-  pointed_holds none v l k m u z h = extended_holds b.entries v m u z h
-  pointed_holds (some p) v l k m u z h =
+  pointed_holds None v l k m u z h = extended_holds b.entries v m u z h
+  pointed_holds (Some p) v l k m u z h =
       let a = accepted (batch_pointer_rows i b was p v) (preview_pointer p v) w (extended i b was b.entries) z in
       let c = clear (batch_pointer_rows i b was p v) a.0 in
       rw l
@@ -124,7 +123,7 @@ module _ (i : Identity) (b : Batch) (was : Log ℕ) (x : ℕ) (w : Preview) wher
       (subst (λ (g : Log ℕ). Holds (with_pointer p.snapshot (v.lsn + 1) g) x) l (extended_holds b.entries (preview_pointer p v) m u a.1 h)))
 
   -- Of a sound log, and a batch whose indices are of 64 bits.
-  pub unsupplied : SoundLog was → every index_fits b.entries ≡ true → supplied x b.entries ≡ none → prepare_on i b was ≡ ok w → Holds w.log x → Holds was x
+  pub unsupplied : SoundLog was → every index_fits b.entries ≡ true → supplied x b.entries ≡ None → prepare_on i b was ≡ Ok w → Holds w.log x → Holds was x
   unfolding prepare_on
   unsupplied k m u z h =
       let v : Preview = record { log = was; lsn = or_zero (λ t. t) was.last_replayed_lsn; records = [] } in

@@ -1,16 +1,12 @@
 -- What is shown of a previewed index, and what it means.
 -- Assumes nothing.
-use Rattle.std.specs.Prelude.{◌≡◌, true, false, List, ℕ, ◌+◌, ◌*◌, get_or, if◌then◌else◌}
-use Rattle.std.proofs.Math.Option.{Option, none, some}
-use Rattle.definition.specs.Table.{◌=?◌}
+use Rattle.std.specs.Prelude.{◌≡◌, true, false, List, ℕ, ◌+◌, ◌*◌, get_or, Option, None, Some}
 use Rattle.definition.specs.Recovery.{sound}
 use Rattle.definition.specs.Batch as M
 use Rattle.ids.specs.declared.RaftReplicaIdentity.{RaftReplicaIdentity}
 use Rattle.ids.specs.Identity.{identity_of}
 use Rattle.view.specs.declared.EntryPayload.{EntryPayload}
 use Rattle.view.specs.declared.EntryPayload.TheVariants as Y
-use Rattle.view.specs.declared.Place.{Place}
-use Rattle.view.specs.declared.Place.TheVariants as Q
 use Rattle.view.specs.Meaning.{no_entry}
 use Rattle.view.specs.Readers.{place_of}
 use Rattle.replay.specs.Plan.{look_of}
@@ -23,13 +19,11 @@ use Rattle.batches.specs.Meaning.{batch_of}
 use Rattle.preview.specs.declared.Preview.{Preview}
 use Rattle.shown.specs.declared.Shown.{Shown}
 use Rattle.shown.specs.declared.Shown.TheVariants as S
-use Rattle.shown.specs.declared.Supplied.{Supplied}
-use Rattle.shown.specs.declared.Supplied.TheVariants as U
 
-abbrev pub shown_of : Shown → M.Shown
-shown_of S.Nothing = M.nothing
-shown_of (S.OfLog place len) = M.of_log place len
-shown_of (S.OfBatch place len) = M.of_batch place len
+abbrev pub shown_of : Option Shown → M.Shown
+shown_of None = M.nothing
+shown_of (Some (S.OfLog place len)) = M.of_log place len
+shown_of (Some (S.OfBatch place len)) = M.of_batch place len
 
 -- f of what is shown of an index, where a batch is tried on a state and its store: what the code answers is r.
 pub record ShowsAt {A : Type 0} (s : RecoveredRaftStorage) (st : List ℕ) (i : RaftReplicaIdentity) (b : RaftPersistenceBatch) (lent : List ℕ) (index : ℕ) (f : M.Shown → A) (r : A) : Type 0 where
@@ -40,31 +34,18 @@ pub record ShowsAt {A : Type 0} (s : RecoveredRaftStorage) (st : List ℕ) (i : 
   -- what means no sound state is among these: the definition shows nothing either
   pub unsound : sound (recovery_of s st) ≡ false → r ≡ f (M.previewed_at (recovery_of s st) (identity_of i) (batch_of b lent) index)
 
--- The model. What an entry of the batch supplies, by its index and its first number.
-abbrev pub supplied_of : Supplied → Option ℕ
-supplied_of U.None = none
-supplied_of (U.At first) = some first
+-- The model. A command of the preview, by where the batch supplied the index and where the replica stands.
+abbrev pub command_shown : Own → Option ℕ → ℕ → ℕ → Option Shown
+command_shown o (Some first) n index = Some (S.OfBatch first n)
+command_shown o None n index = Some (S.OfLog (4096 * o.place + 64 * look_of o.head index) n)
 
-abbrev pub own_from : ℕ → ℕ → ℕ → Option ℕ
-own_from own first index = if own =? index then some first else none
-
--- The later of two, where it supplies the index.
-abbrev pub later_of : Option ℕ → Option ℕ → Option ℕ
-later_of earlier none = earlier
-later_of earlier (some first) = some first
-
--- A command of the preview, by where the batch supplied the index and where the replica stands.
-abbrev pub command_shown : Own → Option ℕ → ℕ → ℕ → Shown
-command_shown o (some first) n index = S.OfBatch first n
-command_shown o none n index = S.OfLog (4096 * o.place + 64 * look_of o.head index) n
-
-abbrev pub payload_shown : Own → Option ℕ → EntryPayload → ℕ → Shown
+abbrev pub payload_shown : Own → Option ℕ → EntryPayload → ℕ → Option Shown
 payload_shown o from (Y.Normal n) index = command_shown o from n index
-payload_shown o from (Y.Configuration kind version replica) index = S.Nothing
+payload_shown o from (Y.Configuration kind version replica) index = None
 
-abbrev pub place_shown : Place → Shown → Shown
-place_shown Q.None x = S.Nothing
-place_shown (Q.Held q) x = x
+abbrev pub place_shown : Option ℕ → Option Shown → Option Shown
+place_shown None x = None
+place_shown (Some q) x = x
 
-abbrev pub shown_by : Own → Preview → Option ℕ → ℕ → Shown
+abbrev pub shown_by : Own → Preview → Option ℕ → ℕ → Option Shown
 shown_by o p from index = place_shown (place_of p.head index) (payload_shown o from (get_or p.entries (look_of p.head index) no_entry).payload index)

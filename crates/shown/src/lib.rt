@@ -1,120 +1,74 @@
 // The command shown for a previewed index: a part of the store or of the bytes lent with the batch.
 #![tactic(auto)]
 
-ghost use Rattle.std.specs.Prelude.{◌≡◌, List, ℕ, ◌<◌, ◌≤◌, take, drop};
+ghost use Rattle.std.specs.Prelude.{◌≡◌, List, ℕ, ◌<◌, ◌≤◌, length, take, drop};
 ghost use Rattle.definition.specs.Batch.{shown_bytes, supplied};
 ghost use Rattle.batches.specs.Meaning.{entries_of};
-ghost use Rattle.shown.specs.Shows.{shown_of, ShowsAt, supplied_of, own_from, later_of, payload_shown, shown_by};
+ghost use Rattle.shown.specs.Shows.{shown_of, ShowsAt, payload_shown, shown_by};
 
 use batches::{BatchEntries, RaftPersistenceBatch};
 use ids::RaftReplicaIdentity;
-use preview::{Prepared, Preview};
+use preview::Preview;
 use readers::Own;
 use storage::RecoveredRaftStorage;
-use view::{EntryPayload, Place};
+use view::EntryPayload;
 
-// What is shown: nothing, or where a command begins in the store or in the lent bytes, and its length.
-#[derive(Clone, Copy)]
+// Where a shown command begins in the store or in the lent bytes, and its length.
+#[derive(Clone, Copy, Debug, PartialEq, Eq)]
 pub enum Shown {
-    Nothing,
     OfLog { place: usize, len: usize },
     OfBatch { place: usize, len: usize },
 }
 
-// Where a command of the batch begins in the lent bytes, if the batch supplied the index.
-#[derive(Clone, Copy)]
-pub enum Supplied {
-    None,
-    At(usize),
-}
-
-// What one entry supplies.
-fn supplied_by(own: u64, first: u64, index: u64) -> Supplied
-    ensures { supplied_of result ≡ own_from own first index }
-{
-    if own == index {
-        return Supplied::At(first as usize);
-    }
-    Supplied::None
-}
-
-// The later of two, where it supplies the index.
-fn later(earlier: Supplied, late: Supplied) -> Supplied
-    ensures { supplied_of result ≡ later_of (supplied_of earlier) (supplied_of late) }
-{
-    match late {
-        Supplied::None => earlier,
-        Supplied::At(first) => Supplied::At(first),
-    }
-}
-
-// The batch's latest entry of an index.
-fn latest(entries: BatchEntries, index: u64) -> Supplied
+// Where the batch's latest entry of an index begins in the lent bytes, if the batch supplied the index.
+#[tactic(auto, using(crate::proofs::Supplying::supply_turn), unfolding(batches::specs::Meaning::entries_of, view::specs::Tab::tab))]
+fn latest(entries: BatchEntries, index: u64) -> Option<usize>
     requires { entries.count ≤ 32 }
-    ensures { (lent : List ℕ) → supplied_of result ≡ supplied index (entries_of entries lent) }
+    ensures { (lent : List ℕ) → result ≡ supplied index (entries_of entries lent) }
 {
-    let n = entries.count;
-    let mut found = Supplied::None;
-    let mut i: usize = 0;
-    while i < n {
-        let own = supplied_by(entries.index[i], entries.first[i], index);
-        found = later(found, own);
-        i = i + 1;
+    let mut found = None;
+    for i in 0..entries.count {
+        if entries.index[i] == index {
+            found = Some(entries.first[i] as usize);
+        }
     }
     found
 }
 
 // A previewed payload: the batch's command where it supplied the index, else the store's, at the place that the log has for it.
-fn show_payload(own: Own, from: Supplied, payload: EntryPayload, index: u64) -> Shown
+fn show_payload(own: Own, from: Option<usize>, payload: EntryPayload, index: u64) -> Option<Shown>
     requires { own.place < 8 }
-    ensures { result ≡ payload_shown own (supplied_of from) payload index }
+    ensures { result ≡ payload_shown own from payload index }
 {
     let EntryPayload::Normal { len } = payload else {
-        return Shown::Nothing;
+        return None;
     };
-    let Supplied::At(first) = from else {
-        let head = own.head;
-        let q = replay::look(head, index);
-        return Shown::OfLog {
-            place: 4096 * own.place + 64 * q,
-            len: len,
-        };
+    let Some(place) = from else {
+        let place = 4096 * own.place + 64 * replay::look(own.head, index);
+        return Some(Shown::OfLog { place, len });
     };
-    Shown::OfBatch {
-        place: first,
-        len: len,
-    }
+    Some(Shown::OfBatch { place, len })
 }
 
-// What a preview shows of an index.
-fn show(own: Own, preview: Preview, entries: BatchEntries, index: u64) -> Shown
+// What a preview shows of an index: nothing where the index is not held.
+fn show(own: Own, preview: Preview, entries: BatchEntries, index: u64) -> Option<Shown>
     requires { (own.place < 8) × (entries.count ≤ 32) }
     ensures { (lent : List ℕ) → result ≡ shown_by own preview (supplied index (entries_of entries lent)) index }
 {
-    let head = preview.head;
-    let Place::Held(_) = head.place_of(index) else {
-        return Shown::Nothing;
+    let Some(_) = preview.head.place_of(index) else {
+        return None;
     };
-    let q = replay::look(head, index);
-    let e = preview.entries[q];
-    let payload = e.payload;
-    let from = latest(entries, index);
-    show_payload(own, from, payload, index)
+    let e = preview.entries[replay::look(preview.head, index)];
+    show_payload(own, latest(entries, index), e.payload, index)
 }
 
 // A part of some bytes, as far as they reach.
 pub fn part(bytes: &[u8], at: usize, len: usize) -> &[u8]
-    ensures { result.now ≡ take len (drop at bytes.now) }
+    ensures bytes { result.now ≡ take len (drop at bytes.now) }
+    ensures short { length result.now ≤ len }
 {
-    let n = bytes.len();
-    if n <= at {
-        return &bytes[0..0];
-    }
-    if n - at <= len {
-        return &bytes[at..];
-    }
-    let end = at + len;
-    &bytes[at..end]
+    let rest = &bytes[at.min(bytes.len())..];
+    &rest[..len.min(rest.len())]
 }
 
 // Where the command of a previewed index stands: nothing where state and store are not sound, the preparation is refused, or the
@@ -126,21 +80,18 @@ pub fn previewed_at(
     batch: RaftPersistenceBatch,
     lent: &[u8],
     index: u64,
-) -> Shown
+) -> Option<Shown>
     ensures { ShowsAt state store.now identity batch lent.now index (λ x. x) (shown_of result) }
 {
     if !readers::passes(state, store) {
-        return Shown::Nothing;
+        return None;
     }
     let own = readers::own_of(state, identity);
     let tried = persistence::try_batch(state, store, own, identity, batch, lent);
-    let answer = tried.answer;
-    if let Prepared::Refused(_) = answer {
-        return Shown::Nothing;
+    match tried.answer {
+        Err(_) => None,
+        Ok(()) => show(own, tried.preview, batch.entries, index),
     }
-    let preview = tried.preview;
-    let entries = batch.entries;
-    show(own, preview, entries, index)
 }
 
 // The command of a previewed index: a part of the store or of the lent bytes, an empty part of the store where there is none.
@@ -155,8 +106,8 @@ pub fn previewed_command<'a>(
     ensures { ShowsAt state store.now identity batch lent.now index (shown_bytes store.now lent.now) result.now }
 {
     match previewed_at(state, store, identity, batch, lent, index) {
-        Shown::Nothing => &store[0..0],
-        Shown::OfLog { place, len } => part(store, place, len),
-        Shown::OfBatch { place, len } => part(lent, place, len),
+        None => &store[..0],
+        Some(Shown::OfLog { place, len }) => part(store, place, len),
+        Some(Shown::OfBatch { place, len }) => part(lent, place, len),
     }
 }

@@ -1,5 +1,7 @@
 -- The output on the flat state is the definition's output on what the state means, where counts and indices keep their limits.
 -- Assumes nothing.
+use Rattle.std.specs.Prelude.{Option, None, Some, Result}
+use Rattle.ids.specs.declared.Refusal.{Refusal}
 use mathlib.Core.Path.{◌≡◌, refl, sym, ap, ◌∙◌}
 use mathlib.Core.List.{List, ◌++◌}
 use Prim.Native.Nat.{ℕ, zero, suc, ◌+◌, ◌*◌, ◌<◌}
@@ -8,8 +10,6 @@ use lib.ListN.{length, get_or}
 use Rattle.definition.specs.Records.{content, content_of}
 use Rattle.definition.specs.Log.{Entry, base}
 use Rattle.codec.specs.declared.RaftWalRecord.TheVariants as W
-use Rattle.codec.specs.declared.RecordBody.{RecordBody}
-use Rattle.codec.specs.declared.RecordBody.TheVariants as B
 use Rattle.codec.specs.declared.WalRecord.{WalRecord}
 use Rattle.codec.specs.Records.{body_of, record_of}
 use Rattle.store.proofs.Part.{get_d_part}
@@ -31,17 +31,18 @@ use Rattle.replica_line.specs.Lines.{line_of, replica_line}
 use Rattle.state_tables.specs.Lines.{kept_word, step_line, pointer_line, entry_line, entry_lines, replica_text, state_text}
 use Rattle.replica_line.specs.Model.{line_in}
 use Rattle.state_tables.specs.Model.{kept_in, step_in, entry_in, place_in, entries_in, replica_in, scan_in, state_in}
+use Rattle.codec.specs.declared.RaftWalRecord.{RaftWalRecord}
 
 -- ---- a record's line
 
-kept_is : (b : RecordBody) (lent : List ℕ) → kept_in b ≡ kept_word (content_of (body_of b lent))
-kept_is B.Foreign lent = refl
-kept_is (B.Raft (W.Entry e)) lent = refl
-kept_is (B.Raft (W.HardState h)) lent = refl
-kept_is (B.Raft (W.SnapshotPointer p)) lent = refl
+kept_is : (b : Option RaftWalRecord) (lent : List ℕ) → kept_in b ≡ kept_word (content_of (body_of b lent))
+kept_is None lent = refl
+kept_is (Some (W.Entry e)) lent = refl
+kept_is (Some (W.HardState h)) lent = refl
+kept_is (Some (W.SnapshotPointer p)) lent = refl
 
 -- What the code writes of a record and its answer is the definition's line of what they mean.
-pub step_is : (r : WalRecord) (a : Observation) (lent : List ℕ) → step_in r.lsn.0 a r.body ≡ step_line r.lsn.0 (answer_of a) (kept_word (content (record_of r lent)))
+pub step_is : (r : WalRecord) (a : Result Observation Refusal) (lent : List ℕ) → step_in r.lsn.0 a r.body ≡ step_line r.lsn.0 (answer_of a) (kept_word (content (record_of r lent)))
 step_is r a lent = ap (step_line r.lsn.0 (answer_of a)) (kept_is r.body lent)
 
 -- ---- a replica

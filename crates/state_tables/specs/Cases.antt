@@ -1,9 +1,8 @@
 -- Computed tests of the output; the text of each line is spelt out.
 -- Assumes nothing.
-use Rattle.std.specs.Prelude.{ℕ, Bool, List, [], ◌∷◌, ◌++◌, T, replicate}
+use Rattle.std.specs.Prelude.{ℕ, Bool, List, [], ◌∷◌, ◌++◌, T, replicate, None, Some}
 use Prim.Native.Char.{code}
 use Prim.Native.String.{String, [] as empty, ◌∷◌ as ◌then◌}
-use Rattle.std.proofs.Math.Option.{none, some}
 use Rattle.definition.specs.Table.{u64_max, every, same_bytes}
 use Rattle.definition.specs.Records.{normal, configuration, inside, outside, addLearner, promoteLearner, removeReplica, entry, hard_state, pointer, Content, form_rows}
 use Rattle.definition.specs.Log as D
@@ -34,27 +33,27 @@ said : ℕ → D.Answer → Content → String → Bool
 said lsn a c s = is (step_line lsn a (kept_word c)) (s ∷ [])
 
 an_entry : Content
-an_entry = some (one, entry 1 (log_entry 1 1 (byte 65)))
+an_entry = Some (one, entry 1 (log_entry 1 1 (byte 65)))
 
 a_hard_state : Content
-a_hard_state = some (one, hard_state 1 (hard_of 1 none 0))
+a_hard_state = Some (one, hard_state 1 (hard_of 1 None 0))
 
 a_pointer : Content
-a_pointer = some (one, pointer (snapshot_at 1 1))
+a_pointer = Some (one, pointer (snapshot_at 1 1))
 
 answers : List Bool
 answers =
-    said 0 counted none "0 foreign"
+    said 0 counted None "0 foreign"
     ∷ said 5 appended an_entry "5 appended"
     ∷ said 6 idempotentReplay an_entry "6 repeated"
     ∷ said 7 (replaced_suffix (record { removed_entries = 64 })) an_entry "7 replaced 64"
     ∷ said 8 kept a_hard_state "8 hard-state"
     ∷ said 9 kept a_pointer "9 pointer"
     ∷ said u64_max (refused 42) a_pointer "18446744073709551615 refused 42"
-    ∷ said 10 (refused 2) none "10 refused 2"
+    ∷ said 10 (refused 2) None "10 refused 2"
     -- no answer to a record, and kinds that are never kept
-    ∷ said 11 finished none "11 finished"
-    ∷ said 12 kept none "12 hard-state"
+    ∷ said 11 finished None "11 finished"
+    ∷ said 12 kept None "12 hard-state"
     ∷ said 13 kept an_entry "13 hard-state"
     ∷ []
 
@@ -72,12 +71,12 @@ distinct =
       snapshot_index = 3;
       snapshot_term = 4;
       committed_index = 8;
-      last_replayed_lsn = some 14;
+      last_replayed_lsn = Some 14;
       progress = record { truncated_through_index = 5; truncated_through_term = 6; applied_index = 7 };
-      hard_state = some (hard_of 9 (some 10) 11);
-      hard_state_lsn = some 12;
+      hard_state = Some (hard_of 9 (Some 10) 11);
+      hard_state_lsn = Some 12;
       snapshot =
-          some (record {
+          Some (record {
             version = 1;
             snapshot_id = 31;
             last_included_index = 32;
@@ -87,7 +86,7 @@ distinct =
             rest = 36;
             checksum = record { a = 81985529216486895; b = 18364758544493064720; c = 1; d = 12297829382473034410 };
           });
-      snapshot_pointer_lsn = some 13;
+      snapshot_pointer_lsn = Some 13;
     }
 
 states : List Bool
@@ -95,7 +94,7 @@ states =
     -- nothing held, nothing scanned
     is (state_text fresh_state) ("scanned 0 last -" ∷ [])
     -- each field has its own place
-    ∷ is (state_text (state_of (held (id 1 2) distinct ∷ []) 41 (some 42)))
+    ∷ is (state_text (state_of (held (id 1 2) distinct ∷ []) 41 (Some 42)))
     ("scanned 41 last 42"
     ∷ "replica 1 2 boundary 3 4 progress 5 6 7 commit 8 hard 9 10 11 hard-lsn 12 pointer-lsn 13 replayed 14 minimum 12 log 2 4 5 22"
     ∷ "  pointer 31 32 33 34 35 36 0123456789abcdeffedcba98765432100000000000000001aaaaaaaaaaaaaaaa"
@@ -103,17 +102,17 @@ states =
     ∷ "  entry 5 23 24 R 25 26"
     ∷ [])
     -- a replica that holds nothing
-    ∷ is (state_text (state_of (held (id 3 4) no_log ∷ []) 1 (some 1)))
+    ∷ is (state_text (state_of (held (id 3 4) no_log ∷ []) 1 (Some 1)))
     ("scanned 1 last 1"
     ∷ "replica 3 4 boundary 0 0 progress 0 0 0 commit 0 hard - hard-lsn - pointer-lsn - replayed - minimum - log 0 - - -"
     ∷ [])
     -- no vote, and an LSN of zero
-    ∷ is (state_text (state_of (held (id 3 4) (log_of [] 0 0 0 none (some (hard_of 2 none 0)) (some 0) none none) ∷ []) 1 (some 0)))
+    ∷ is (state_text (state_of (held (id 3 4) (log_of [] 0 0 0 None (Some (hard_of 2 None 0)) (Some 0) None None) ∷ []) 1 (Some 0)))
     ("scanned 1 last 0"
     ∷ "replica 3 4 boundary 0 0 progress 0 0 0 commit 0 hard 2 - 0 hard-lsn 0 pointer-lsn - replayed - minimum 0 log 0 - - -"
     ∷ [])
     -- no entries behind a boundary: a last index and no first
-    ∷ is (state_text (state_of (held (id 1 1) (log_of [] 7 2 7 (some 9) (some (hard_of 2 none 7)) none (some (snapshot_at 7 2)) (some 9)) ∷ []) 1 (some 9)))
+    ∷ is (state_text (state_of (held (id 1 1) (log_of [] 7 2 7 (Some 9) (Some (hard_of 2 None 7)) None (Some (snapshot_at 7 2)) (Some 9)) ∷ []) 1 (Some 9)))
     ("scanned 1 last 9"
     ∷ "replica 1 1 boundary 7 2 progress 7 2 7 commit 7 hard 2 - 7 hard-lsn - pointer-lsn 9 replayed 9 minimum 9 log 0 - 7 -"
     ∷ "  pointer 7 7 2 7 1 1 0000000000000001000000000000000000000000000000000000000000000000"
@@ -121,7 +120,7 @@ states =
     -- the empty command, and each kind of change
     ∷ is
     (state_text (state_of
-    (held (id 1 1) (plain_log (k_ep 1 2 (normal (inside [])) ∷ k_ep 1 3 (configuration addLearner 4 5) ∷ k_ep 1 6 (configuration promoteLearner 7 8) ∷ k_ep 1 9 (configuration removeReplica u64_max u64_max) ∷ []) (some 9)) ∷ []) 4 (some 9)))
+    (held (id 1 1) (plain_log (k_ep 1 2 (normal (inside [])) ∷ k_ep 1 3 (configuration addLearner 4 5) ∷ k_ep 1 6 (configuration promoteLearner 7 8) ∷ k_ep 1 9 (configuration removeReplica u64_max u64_max) ∷ []) (Some 9)) ∷ []) 4 (Some 9)))
     ("scanned 4 last 9"
     ∷ "replica 1 1 boundary 0 0 progress 0 0 0 commit 0 hard - hard-lsn - pointer-lsn - replayed 9 minimum 2 log 4 1 4 2"
     ∷ "  entry 1 1 2 N "
@@ -135,14 +134,14 @@ states =
     -- a command outside what was lent, which is never kept
     ∷ is (entry_line 1 2 3 (normal outside)) ("  entry 1 2 3 N " ∷ [])
     -- the largest boundary, whose own entry is held
-    ∷ is (state_text (state_of (held (id 1 1) (log_of (k_e 1 2 ∷ []) u64_max 1 u64_max (some 3) (some (hard_of 1 none u64_max)) none (some (snapshot_at u64_max 1)) (some 3)) ∷ []) 3 (some 3)))
+    ∷ is (state_text (state_of (held (id 1 1) (log_of (k_e 1 2 ∷ []) u64_max 1 u64_max (Some 3) (Some (hard_of 1 None u64_max)) None (Some (snapshot_at u64_max 1)) (Some 3)) ∷ []) 3 (Some 3)))
     ("scanned 3 last 3"
     ∷ "replica 1 1 boundary 18446744073709551615 1 progress 18446744073709551615 1 18446744073709551615 commit 18446744073709551615 hard 1 - 18446744073709551615 hard-lsn - pointer-lsn 3 replayed 3 minimum 2 log 1 18446744073709551615 18446744073709551615 2"
     ∷ "  pointer 7 18446744073709551615 1 18446744073709551615 1 1 0000000000000001000000000000000000000000000000000000000000000000"
     ∷ "  entry 18446744073709551615 1 2 N 41"
     ∷ [])
     -- the minimum is the pointer's, the hard state's, the first entry's
-    ∷ is (state_text (state_of (held (id 1 1) (log_of (k_e 1 7 ∷ []) 1 1 1 (some 8) none (some 6) (some (snapshot_at 1 1)) (some 5)) ∷ held (id 1 2) (log_of (k_e 1 7 ∷ []) 1 1 1 (some 8) none (some 5) (some (snapshot_at 1 1)) (some 6)) ∷ held (id 2 1) (log_of (k_e 1 5 ∷ []) 1 1 1 (some 8) none (some 6) (some (snapshot_at 1 1)) (some 7)) ∷ []) 9 (some 9)))
+    ∷ is (state_text (state_of (held (id 1 1) (log_of (k_e 1 7 ∷ []) 1 1 1 (Some 8) None (Some 6) (Some (snapshot_at 1 1)) (Some 5)) ∷ held (id 1 2) (log_of (k_e 1 7 ∷ []) 1 1 1 (Some 8) None (Some 5) (Some (snapshot_at 1 1)) (Some 6)) ∷ held (id 2 1) (log_of (k_e 1 5 ∷ []) 1 1 1 (Some 8) None (Some 6) (Some (snapshot_at 1 1)) (Some 7)) ∷ []) 9 (Some 9)))
     ("scanned 9 last 9"
     ∷ "replica 1 1 boundary 1 1 progress 1 1 1 commit 1 hard - hard-lsn 6 pointer-lsn 5 replayed 8 minimum 5 log 1 2 2 7"
     ∷ "  pointer 7 1 1 1 1 1 0000000000000001000000000000000000000000000000000000000000000000"
@@ -165,7 +164,7 @@ each_state = tt
 journal : List Bool
 journal =
     is
-    (steps_text (E 5 1 1 ∷ E 6 2 2 ∷ E 7 2 2 ∷ Ep 8 2 3 (configuration addLearner 4 5) ∷ H 9 2 (some 3) 1 ∷ F 10 ∷ P 11 1 1 ∷ E 11 3 3 ∷ E 12 5 3 ∷ []))
+    (steps_text (E 5 1 1 ∷ E 6 2 2 ∷ E 7 2 2 ∷ Ep 8 2 3 (configuration addLearner 4 5) ∷ H 9 2 (Some 3) 1 ∷ F 10 ∷ P 11 1 1 ∷ E 11 3 3 ∷ E 12 5 3 ∷ []))
     ("5 appended"
     ∷ "6 appended"
     ∷ "7 repeated"

@@ -1,8 +1,7 @@
 -- What the program `steps` prints of records and of a state, over the definition, as ASCII bytes: numbers in decimal, `-` for none, single
 -- spaces, and a newline at the end of each line.
 -- Assumes nothing.
-use Rattle.std.specs.Prelude.{ℕ, suc, List, [], ◌∷◌, ◌++◌}
-use Rattle.std.proofs.Math.Option.{Option, none, some}
+use Rattle.std.specs.Prelude.{ℕ, suc, List, [], ◌∷◌, ◌++◌, Option, None, Some}
 use Rattle.definition.specs.Records.{Payload, normal, configuration, inside, outside, Pointer, entry, hard_state, pointer, Content, content, Record}
 use Rattle.definition.specs.Log.{Entry, Log, base, Answer, counted, appended, idempotentReplay, kept, finished, replaced_suffix, refused}
 use Rattle.definition.specs.Recovery.{Held, State, fresh_state, joined, state_answers, state_after, finish_state}
@@ -56,10 +55,10 @@ entry_word = 101 ∷ 110 ∷ 116 ∷ 114 ∷ 121 ∷ []
 
 -- What an accepted record of no entry was: a hard state or a pointer.
 abbrev pub kept_word : Content → List ℕ
-kept_word none = hard_state_word
-kept_word (some (i, entry version e)) = hard_state_word
-kept_word (some (i, hard_state version h)) = hard_state_word
-kept_word (some (i, pointer p)) = pointer_word
+kept_word None = hard_state_word
+kept_word (Some (i, entry version e)) = hard_state_word
+kept_word (Some (i, hard_state version h)) = hard_state_word
+kept_word (Some (i, pointer p)) = pointer_word
 
 -- What a record was answered; `word` says what was kept.
 abbrev pub answer_fields : Answer → List ℕ → List (List ℕ)
@@ -88,8 +87,8 @@ indented l = 32 ∷ 32 ∷ l
 
 -- ID, index, term, applied, size, rest, checksum; no line without a pointer
 abbrev pub pointer_line : Option Pointer → List ℕ
-pointer_line none = []
-pointer_line (some p) =
+pointer_line None = []
+pointer_line (Some p) =
     indented (row (pointer_word
     ∷ decimal p.snapshot_id
     ∷ decimal p.last_included_index

@@ -1,10 +1,9 @@
 -- The output on the declared types: what the code writes, also of a state that keeps no limit. Places held count as at most 8, a replica's
 -- entries as at most 64, an index past 2^64 - 1 is 2^64 - 1, and a command has the bytes that its cell of the store has.
 -- Assumes nothing.
-use Rattle.std.specs.Prelude.{◌≡◌, List, ◌++◌, ℕ, ◌+◌, ◌*◌, ◌<◌, ◌≤◌, length, get_or}
+use Rattle.std.specs.Prelude.{List, ◌++◌, ℕ, ◌+◌, ◌*◌, get_or, Option, None, Some, Result}
+use Rattle.ids.specs.declared.Refusal.{Refusal}
 use Rattle.codec.specs.declared.RaftWalRecord.TheVariants as W
-use Rattle.codec.specs.declared.RecordBody.{RecordBody}
-use Rattle.codec.specs.declared.RecordBody.TheVariants as B
 use Rattle.view.specs.declared.RecoveredRaftLogEntry.{RecoveredRaftLogEntry}
 use Rattle.view.specs.Meaning.{lsn_of, snapshot_of, payload_in, no_entry, cell_at, base_of}
 use Rattle.replay.specs.declared.Observation.{Observation}
@@ -12,26 +11,22 @@ use Rattle.replay.specs.Plan.{answer_of}
 use Rattle.storage.specs.declared.Scan.{Scan}
 use Rattle.storage.specs.declared.RecoveredRaftStorage.{RecoveredRaftStorage}
 use Rattle.storage.specs.Model.{head_at}
-use Rattle.tables.specs.Model.{lines_to, index_at, len_of, held_in, Wrote}
+use Rattle.tables.specs.Model.{lines_to, index_at, len_of, held_in}
 use Rattle.replica_line.specs.Lines.{replica_line}
 use Rattle.state_tables.specs.Lines.{hard_state_word, pointer_word, step_line, pointer_line, entry_line, scan_line}
 use Rattle.replica_line.specs.Model.{line_in}
+use Rattle.codec.specs.declared.RaftWalRecord.{RaftWalRecord}
 
 -- ---- a record's line
 
-abbrev pub kept_in : RecordBody → List ℕ
-kept_in B.Foreign = hard_state_word
-kept_in (B.Raft (W.Entry e)) = hard_state_word
-kept_in (B.Raft (W.HardState h)) = hard_state_word
-kept_in (B.Raft (W.SnapshotPointer p)) = pointer_word
+abbrev pub kept_in : Option RaftWalRecord → List ℕ
+kept_in None = hard_state_word
+kept_in (Some (W.Entry e)) = hard_state_word
+kept_in (Some (W.HardState h)) = hard_state_word
+kept_in (Some (W.SnapshotPointer p)) = pointer_word
 
-abbrev pub step_in : ℕ → Observation → RecordBody → List ℕ
+abbrev pub step_in : ℕ → Result Observation Refusal → Option RaftWalRecord → List ℕ
 step_in lsn a body = step_line lsn (answer_of a) (kept_in body)
-
--- What writing a line at a place leaves: where the longest has room, the line; where it has none, nothing.
-pub record Kept (d : List ℕ) (at : ℕ) (ys : List ℕ) (r : ℕ) (d' : List ℕ) : Type 0 where
-  pub line : at + 53 ≤ length d → Wrote d at ys 53 r d'
-  pub full : length d < at + 53 → (r ≡ at) × (d' ≡ d)
 
 -- ---- a replica's lines
 

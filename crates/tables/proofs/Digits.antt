@@ -1,13 +1,11 @@
 -- The digits that `io::decimal` writes, the fewest that hold a number, are the definition's.
 -- Assumes nothing.
 use mathlib.Core.Path.{◌≡◌, refl, sym, ap, ◌∙◌}
-use mathlib.Core.Bool.{Bool, true, false}
 use mathlib.Core.List.{List, [], ◌∷◌, ◌++◌}
 use Prim.Native.Nat.{ℕ, zero, suc, ◌+◌, ◌-◌, ◌*◌, ◌/◌, ◌%◌, ◌^◌, ◌<◌, ◌≤◌}
-use native.Mathlib.Nat.{pow-succ', pow-le-pow_right}
+use native.Mathlib.Nat.{pow-succ'}
 use native.Mathlib.Omega.{arith}
-use borrow.Author.Tests.{lt-ltb, le-ltb, ltb-true, ltb-false}
-use lib.Dec.{ltb}
+use borrow.Author.Tests.{lt-ltb, le-ltb}
 use lib.ListN.{length, length-append}
 use Rattle.io.specs.Digits.{last_digits, hex_digit_ascii, IsDigitCount}
 use Rattle.tables.specs.Tables.{digits_within, decimal}
@@ -48,16 +46,3 @@ pub digits_decimal : (r n : ℕ) → IsDigitCount 10 1 n r → last_digits 10 r 
 unfolding decimal
 digits_decimal zero n f = absurd (omega arith)
 digits_decimal (suc r) n f = let e : suc r - 1 ≡ r = omega arith in fewest r n n f.1 (λ h. rw e at (f.2 (omega arith))) (omega arith)
-
--- a number of 64 bits has at most 20
-pub at_most_20 : (r n : ℕ) → IsDigitCount 10 1 n r → n < 18446744073709551616 → r ≤ 20
-at_most_20 r n f h = go (ltb 20 r) refl
-  where
-    go : (b : Bool) → ltb 20 r ≡ b → r ≤ 20
-    go false e = omega (arith, ltb-false 20 r e)
-    go true e =
-        let l : 20 < r = ltb-true 20 r e in
-        let p : 10 ^ 20 ≤ 10 ^ (r - 1) = pow-le-pow_right {n = 10} (omega arith) {i = 20} {j = r - 1} (omega arith) in
-        let q : 10 ^ (r - 1) ≤ n = f.2 (omega arith) in
-        let v : 10 ^ 20 ≡ 100000000000000000000 = refl in
-        absurd (omega arith)

@@ -2,9 +2,10 @@
 -- Assumes nothing.
 use mathlib.Core.Path.{◌≡◌, refl, sym, ap, ◌∙◌}
 use mathlib.Core.List.{List, ◌++◌, append_assoc, append-nil}
-use Prim.Native.Nat.{ℕ, zero, suc, ◌+◌, ◌*◌, ◌<◌}
+use Prim.Native.Nat.{ℕ, zero, suc, ◌+◌, ◌*◌, ◌<◌, ◌≤◌}
 use native.Mathlib.Omega.{arith}
-use lib.ListN.{length, get_or}
+use lib.ListN.{length, get_or, take}
+use lib.Seq.{length-take-le, get_or-take}
 use Rattle.definition.specs.Records.{Identity}
 use Rattle.definition.specs.Log.{Entry, Log, base, count}
 use Rattle.definition.specs.Recovery.{Held, joined}
@@ -14,7 +15,8 @@ use Rattle.view.specs.Tab.{tab}
 use Rattle.view.specs.Meaning.{no_entry, entry_at, view_of, id_of, base_of, Fits}
 use Rattle.view.proofs.Tab.{length_tab}
 use Rattle.storage.specs.declared.RecoveredRaftStorage.{RecoveredRaftStorage}
-use Rattle.storage.specs.Model.{head_at, entries_in, bytes_in}
+use Rattle.view.specs.declared.Header.{Header}
+use Rattle.storage.specs.Model.{no_header, head_at, entries_in, bytes_in}
 use Rattle.storage.specs.Meaning.{held_at, meaning, Linked}
 use Rattle.tables.specs.Tables.{replicas_word, entries_word, entry_line, line_of, lines_from, entry_lines_of, entry_count, count_line, tables}
 use Rattle.tables.specs.Model.{lines_to, sum_to, head_line, index_at, len_of, held_in, log_lines, head_lines, tables_of}
@@ -63,6 +65,16 @@ from_tab i (suc n) b e =
     (from_tab i n (suc b) (λ q. e (suc q))
     ∙ lines_same n (λ q. entry_line i (suc b + q) (e (suc q)).term (e (suc q)).lsn) (λ q. f (suc q)) (λ q _. ap (λ (x : ℕ). entry_line i x (e (suc q)).term (e (suc q)).lsn) (s q)))
     ∙ sym (lines_first n f)
+
+-- The lines of the first n headers.
+pub head_lines_of : (hs : List Header) (n : ℕ) → n ≤ length hs → head_lines (take n hs) (length (take n hs)) ≡ head_lines hs n
+head_lines_of hs n h =
+    let l : length (take n hs) ≡ n = length-take-le n hs h in
+    let b : lines_to n (λ p. head_line (get_or (take n hs) p no_header)) ≡ lines_to n (λ p. head_line (get_or hs p no_header)) =
+    lines_same n (λ p. head_line (get_or (take n hs) p no_header)) (λ p. head_line (get_or hs p no_header)) (λ p k. ap head_line (get_or-take n hs p no_header k)) in
+    let c : sum_to n (λ p. len_of (get_or (take n hs) p no_header)) ≡ sum_to n (λ p. len_of (get_or hs p no_header)) =
+    sum_same n (λ p. len_of (get_or (take n hs) p no_header)) (λ p. len_of (get_or hs p no_header)) (λ p k. ap len_of (get_or-take n hs p no_header k)) in
+    ap (λ (x : ℕ). head_lines (take n hs) x) l ∙ (λ i. count_line replicas_word n ++ b i ++ count_line entries_word (c i))
 
 -- ---- a replica
 

@@ -1,4 +1,3 @@
 pub mod Digits
-pub mod Wrote
-pub mod Lines
+pub mod Text
 pub mod Law

@@ -1,10 +1,9 @@
 -- The output on the flat state: what the code writes, also of a state that keeps no limit. Places held count as at most 8, a
 -- replica's entries as at most 64, and an index past 2^64 - 1 is 2^64 - 1.
 -- Assumes nothing.
-use Rattle.std.specs.Prelude.{◌≡◌, List, [], ◌++◌, ℕ, zero, suc, ◌+◌, ◌*◌, ◌≤◌, min, length, get_or, take}
+use Rattle.std.specs.Prelude.{List, [], ◌++◌, ℕ, zero, suc, ◌+◌, ◌*◌, min, get_or}
 use Rattle.definition.specs.Table.{u64_max}
 use Rattle.codec.specs.Records.{maybe_hard_state_of}
-use Rattle.store.specs.Splice.{splice}
 use Rattle.view.specs.declared.Header.{Header}
 use Rattle.view.specs.declared.RecoveredRaftLogEntry.{RecoveredRaftLogEntry}
 use Rattle.view.specs.Meaning.{no_entry, id_of, base_of}
@@ -54,18 +53,3 @@ head_lines hs held =
 -- All that the code writes of a state.
 unfoldable pub tables_of : RecoveredRaftStorage → List ℕ
 tables_of s = head_lines s.heads (held_in s) ++ lines_to (held_in s) (log_lines s)
-
--- What writing leaves: ys, at most n bytes, stand in d from `at` on, and r is the place behind them.
-pub record Wrote (d : List ℕ) (at : ℕ) (ys : List ℕ) (n : ℕ) (r : ℕ) (d' : List ℕ) : Type 0 where
-  pub bytes : d' ≡ splice d at ys
-  pub next : r ≡ at + length ys
-  pub short : length ys ≤ n
-
--- What an entry point leaves: ys at the start of d, the rest of d as it was, and r says how many bytes ys has. The other parts
--- follow from these; a caller that shows `&out[..r]` needs them.
-pub record Printed (d : List ℕ) (ys : List ℕ) (r : ℕ) (d' : List ℕ) : Type 0 where
-  pub bytes : d' ≡ splice d 0 ys
-  pub count : r ≡ length ys
-  pub within : r ≤ length d'
-  pub shown : take r d' ≡ ys
-  pub counted : r ≡ length (take r d')

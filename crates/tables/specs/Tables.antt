@@ -1,8 +1,7 @@
 -- What the program `recover` prints (document 01, 'The program `recover` reads ..'), as ASCII bytes: numbers in decimal, single
 -- spaces, and a newline at the end of each line.
 -- Assumes nothing.
-use Rattle.std.specs.Prelude.{ℕ, zero, suc, ◌+◌, ◌/◌, ◌%◌, Bool, true, false, List, [], ◌∷◌, ◌++◌, length}
-use Rattle.std.proofs.Math.Option.{Option, none, some}
+use Rattle.std.specs.Prelude.{ℕ, zero, suc, ◌+◌, ◌/◌, ◌%◌, Bool, true, false, List, [], ◌∷◌, ◌++◌, length, Option, None, Some}
 use Rattle.definition.specs.Table.{◌<?◌}
 use Rattle.definition.specs.Records.{Identity, HardState}
 use Rattle.definition.specs.Log.{Entry, Log, base, count}
@@ -46,13 +45,13 @@ malformed_word = 109 ∷ 97 ∷ 108 ∷ 102 ∷ 111 ∷ 114 ∷ 109 ∷ 101 ∷ 
 
 -- `-` for no vote.
 abbrev pub vote_field : Option ℕ → List ℕ
-vote_field none = 45 ∷ []
-vote_field (some v) = decimal v
+vote_field None = 45 ∷ []
+vote_field (Some v) = decimal v
 
 -- Current term, vote, commit of the hard state; without one those that Raft begins with.
 abbrev pub hard_fields : Option HardState → List (List ℕ)
-hard_fields none = decimal 0 ∷ vote_field none ∷ decimal 0 ∷ []
-hard_fields (some h) = decimal h.current_term ∷ vote_field h.voted_for ∷ decimal h.commit ∷ []
+hard_fields None = decimal 0 ∷ vote_field None ∷ decimal 0 ∷ []
+hard_fields (Some h) = decimal h.current_term ∷ vote_field h.voted_for ∷ decimal h.commit ∷ []
 
 -- group, replica, boundary index, boundary term, current term, vote, commit (the hard state's)
 abbrev pub replica_line : Identity → ℕ → ℕ → Option HardState → List ℕ

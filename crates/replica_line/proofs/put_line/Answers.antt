@@ -1,12 +1,10 @@
--- `replica_line::put_line` meets its contract.
-use native.Mathlib.Omega.{arith}
-use Rattle.tables.proofs.Wrote.{then, said}
-use Rattle.replica_line.specs.Lines.{log_word, replica_line}
+-- `replica_line::put_line` meets its contract: three groups of fields, and the one that ends the line.
+use Rattle.replica_line.specs.Lines.{replica_line}
 use Rattle.replica_line.proofs.Rows.{group_row}
 use Rattle.replica_line.proofs.put_line.Goals as goal
 
-pub returns : goal.returns
+pub returns-clause-text : goal.returns-clause-text
 unfolding replica_line
-returns c =
-    let p = c.requires in
-    said (group_row _ _ _ log_word _) (omega arith) (then (omega (arith, p)) (then (omega (arith, p)) (then (omega (arith, p)) c.put_position-a.ensures c.put_hard_state-b.ensures) c.put_lsns-c.ensures) c.put_range.ensures)
+returns-clause-text c =
+    rw (c.put_range.ensures.text, c.put_lsns.ensures.text, c.put_hard_state.ensures.text, c.put_position.ensures.text)
+    (group_row _ _ _ _ _ _)

@@ -1,12 +1,10 @@
 -- `replica_line::put_lsns` meets its contract.
-use native.Mathlib.Omega.{arith}
-use Rattle.tables.proofs.Wrote.{then, said}
-use Rattle.batch_tables.specs.Lines.{spaced, minimum_word}
-use Rattle.replica_line.specs.Lines.{hard_lsn_word, pointer_lsn_word, replayed_word}
-use Rattle.replica_line.proofs.Rows.{spaced_pairs, named_is}
+use Rattle.std.proofs.Common.{append_assoc}
+use mathlib.Core.List.{append-nil}
+use Rattle.replica_line.specs.Model.{spaced_all}
 use Rattle.replica_line.proofs.put_lsns.Goals as goal
 
-pub returns : goal.returns
-returns c =
-    let p = c.requires in
-    said (spaced_pairs hard_lsn_word _ pointer_lsn_word _ replayed_word _ minimum_word _) (omega arith) (then (omega (arith, p)) (then (omega (arith, p)) (then (omega (arith, p)) c.put_named-a.ensures c.put_named-b.ensures) c.put_named-c.ensures) (said {n = 33} (named_is (spaced minimum_word) c.minimum_of-minimum.ensures) (omega arith) c.put_named.ensures))
+pub returns-clause-text : goal.returns-clause-text
+unfolding spaced_all
+returns-clause-text c =
+    simp (c.put_named-4.ensures.text, c.put_named-3.ensures.text, c.put_named-2.ensures.text, c.put_named.ensures.text, c.minimum_of.ensures, append_assoc, append-nil)

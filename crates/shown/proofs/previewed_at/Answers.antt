@@ -22,24 +22,24 @@ pub try_batch-tried-requires : goal.try_batch-tried-requires
 try_batch-tried-requires c =
     kept (owns c.passes.ensures c.if-not-passes.false c.own_of-own.ensures)
 
-pub returns-in-Refused : goal.returns-in-Refused
-returns-in-Refused c =
+pub returns-in-Err : goal.returns-in-Err
+returns-in-Err c =
     let a = c.args in
     let w = owns c.passes.ensures c.if-not-passes.false c.own_of-own.ensures in
     let small : (n : ℕ) → get_or a.batch.entries.index n 0 ≤ u64_max = λ n. search rules in
-    shows_refused a.state a.store.now a.identity a.batch a.lent.now a.index _ w small _ c.try_batch-tried.ensures _ c.in-Refused.is
+    shows_refused a.state a.store.now a.identity a.batch a.lent.now a.index _ w small _ c.try_batch-tried.ensures _ c.in-Err.is
 
 pub show-requires : goal.show-requires
 show-requires c =
     let a = c.args in
     let w = owns c.passes.ensures c.if-not-passes.false c.own_of-own.ensures in (
       w.low,
-      tried_few a.state a.store.now a.identity a.batch a.lent.now _ (told_refused _ _ _ c.try_batch-tried.ensures c.in_default.is),
+      tried_few a.state a.store.now a.identity a.batch a.lent.now _ (told_refused _ _ _ c.try_batch-tried.ensures c.in-Ok.is),
     )
 
-pub returns : goal.returns
-returns c =
+pub returns-in-Ok : goal.returns-in-Ok
+returns-in-Ok c =
     let a = c.args in
     let w = owns c.passes.ensures c.if-not-passes.false c.own_of-own.ensures in
     let small : (n : ℕ) → get_or a.batch.entries.index n 0 ≤ u64_max = λ n. search rules in
-    shows_ready a.state a.store.now a.identity a.batch a.lent.now a.index _ w small c.try_batch-tried.result c.try_batch-tried.ensures c.in_default.is c.show.result (c.show.ensures a.lent.now)
+    shows_ready a.state a.store.now a.identity a.batch a.lent.now a.index _ w small c.try_batch-tried.result c.try_batch-tried.ensures c.in-Ok.is c.show.result (c.show.ensures a.lent.now)

@@ -1,24 +1,21 @@
 -- `previewed_command` meets its contract.
-use mathlib.Core.Path.{sym, ap, ◌∙◌}
 use Rattle.definition.specs.Batch.{shown_bytes}
-use Rattle.shown.specs.declared.Shown.{Shown}
-use Rattle.shown.specs.Shows.{shown_of}
 use Rattle.shown.proofs.Answers.{shows_part}
 use Rattle.shown.proofs.previewed_command.Goals as goal
 
-pub returns-in-Nothing : goal.returns-in-Nothing
-returns-in-Nothing c =
+pub returns-in-None : goal.returns-in-None
+returns-in-None c =
     let a = c.args in
-    shows_part c.previewed_at.ensures (shown_bytes a.store.now a.lent.now) _ (ap (λ (x : Shown). shown_bytes a.store.now a.lent.now (shown_of x)) (sym c.in-Nothing.is))
+    shows_part c.previewed_at.ensures (shown_bytes a.store.now a.lent.now) _ (rw c.in-None.is)
 
-pub returns-in-OfLog : goal.returns-in-OfLog
-returns-in-OfLog c =
+pub returns-in-Some-OfLog : goal.returns-in-Some-OfLog
+returns-in-Some-OfLog c =
     let a = c.args in
-    shows_part c.previewed_at.ensures (shown_bytes a.store.now a.lent.now) _
-    (c.part.ensures ∙ ap (λ (x : Shown). shown_bytes a.store.now a.lent.now (shown_of x)) (sym c.in-OfLog.is))
+    let w = c.in-Some-OfLog in
+    shows_part c.previewed_at.ensures (shown_bytes a.store.now a.lent.now) _ (rw (w.is, w.field-0-is) c.part.ensures.bytes)
 
-pub returns-in-OfBatch : goal.returns-in-OfBatch
-returns-in-OfBatch c =
+pub returns-in-Some-OfBatch : goal.returns-in-Some-OfBatch
+returns-in-Some-OfBatch c =
     let a = c.args in
-    shows_part c.previewed_at.ensures (shown_bytes a.store.now a.lent.now) _
-    (c.part-in-OfBatch.ensures ∙ ap (λ (x : Shown). shown_bytes a.store.now a.lent.now (shown_of x)) (sym c.in-OfBatch.is))
+    let w = c.in-Some-OfBatch in
+    shows_part c.previewed_at.ensures (shown_bytes a.store.now a.lent.now) _ (rw (w.is, w.field-0-is) c.part-in-Some-OfBatch.ensures.bytes)
