@@ -6,50 +6,36 @@ mod printing;
 mod reading;
 
 use journal::input::Source;
-use journal::{Ended, Stop};
+use journal::{Recovered, Stop};
+use text::command::Commands;
 
 // Behind the journal: the batch.
-fn answer<'a>(
+fn answer(
     rt: &impl Print,
     source: &mut Source,
-    buffer: &mut [u8],
-    ended: Ended,
-    lent: &'a [u8],
-    lens: &[u8],
-    store: &'a [u8],
+    recovered: Recovered,
+    commands: &Commands,
+    store: &[u8],
 ) -> std::io::Result<()> {
-    let window = ended.window;
     let mut shows = [0u64; 4096];
-    let asked = reading::read_batch(
-        source,
-        buffer,
-        window,
-        ended.line,
-        ended.commands,
-        lens,
-        &mut shows,
-    );
+    let asked = reading::read_batch(source, recovered.line, commands.lens(), &mut shows);
     source.outcome()?;
-    let stop = asked.stop;
-    if let Stop::Malformed(line) = stop {
-        return printing::print_malformed(rt, line);
+    match asked {
+        Err(line) => printing::print_malformed(rt, line),
+        Ok(asked) => printing::print_answer(rt, recovered.state, &asked, commands, store, &shows),
     }
-    let state = ended.state;
-    printing::print_answer(rt, state, asked, ended.commands, lens, lent, store, &shows)
 }
 
 fn main(rt: HostRuntime) -> std::io::Result<()> {
-    let mut source = Source::new(rt.stdin());
     let mut buffer = io::large_buffer();
-    let mut lent = [0u8; 16640];
-    let mut lens = [0u8; 256];
+    let mut commands = Commands::none();
     let mut store = [0u8; 32768];
-    let ended = journal::recover(&mut source, &mut buffer, &mut lent, &mut lens, &mut store);
+    let mut source = Source::new(rt.stdin(), &mut buffer);
+    let recovered = journal::recover(&mut source, &mut commands, &mut store);
     source.outcome()?;
-    let stop = ended.stop;
-    match stop {
-        Stop::Malformed(line) => printing::print_malformed(&rt, line),
-        Stop::Refused { lsn, number } => printing::print_journal_refused(&rt, lsn, number),
-        Stop::None => answer(&rt, &mut source, &mut buffer, ended, &lent, &lens, &store),
+    match recovered {
+        Err(Stop::Malformed(line)) => printing::print_malformed(&rt, line),
+        Err(Stop::Refused { lsn, why }) => printing::print_journal_refused(&rt, lsn, why),
+        Ok(recovered) => answer(&rt, &mut source, recovered, &commands, &store),
     }
 }

@@ -1,224 +1,104 @@
-// Standard input in pieces: the next line, the next command.
-ghost use Rattle.io.specs.Counts.{IsPrefixLen};
+// Standard input in pieces: the next line, the next command, the next record.
+ghost use Rattle.std.specs.Prelude.{◌≤◌, IfSome};
 
+use codec::WalRecord;
+use std::io;
 use std::io::{Read, Stdin};
-use text::command::{Command, MaybeLen};
+use text::command::Command;
 use text::line::Line;
-use text::record::MaybeRecord;
-use text::{command, line, record};
+use text::record;
 
-// Standard input, and whether each read of it went well: one that fails counts as its end.
+// Standard input through a buffer. A read that fails counts as the input's end, and its error is kept.
 #[derive(Drop)]
-pub struct Source {
+pub struct Source<'a> {
     stdin: Stdin,
-    outcome: std::io::Result<()>,
+    buffer: &'a mut [u8],
+    // what was read and not yet used: the bytes of the buffer from `at` up to `len`
+    at: usize,
+    len: usize,
+    outcome: io::Result<()>,
 }
 
-impl Source {
-    pub fn new(stdin: Stdin) -> Source {
+impl<'a> Source<'a> {
+    // Nothing was read yet.
+    pub fn new(stdin: Stdin, buffer: &'a mut [u8]) -> Source<'a> {
         Source {
-            stdin: stdin,
+            stdin,
+            buffer,
+            at: 0,
+            len: 0,
             outcome: Ok(()),
         }
     }
 
     // The error of the last read that failed.
-    pub fn outcome(&self) -> std::io::Result<()> {
+    pub fn outcome(&self) -> io::Result<()> {
         self.outcome
     }
 
-    // One read: how many bytes it put at the start of the buffer, none where it failed.
-    fn read_some(&mut self, buffer: &mut [u8]) -> usize
-        ensures { IsPrefixLen result buffer.new }
-    {
-        match self.stdin.read(buffer) {
-            Ok(n) => n,
-            Err(e) => {
-                self.outcome = Err(e);
-                0
-            }
-        }
+    // What was read and not yet used.
+    fn unused(&self) -> &[u8] {
+        self.buffer.get(self.at..self.len).unwrap_or(&[])
     }
 
-    // Reads until the buffer is full, the input ends or a read fails: how many bytes it put at its start.
-    fn read_full(&mut self, buffer: &mut [u8]) -> usize
-        ensures { IsPrefixLen result buffer.new }
+    // Reads until the buffer is full, the input ends or a read fails: whether a byte came.
+    fn refill(&mut self) -> bool {
+        self.at = 0;
+        self.len = 0;
+        while self.len < self.buffer.len() {
+            match self.stdin.read(&mut self.buffer[self.len..]) {
+                Ok(0) => break,
+                Ok(n) => self.len += n,
+                Err(e) => {
+                    self.outcome = Err(e);
+                    break;
+                }
+            }
+        }
+        self.len > 0
+    }
+
+    // Gives the bytes of the next line to `read`, in pieces, until it says how many of them the line took with its newline: whether a
+    // line stood there. The last one may lack its newline; nothing behind a newline is no line. A proved loop has to end: no run uses
+    // up so many turns.
+    fn next<F: FnMut(&[u8]) -> Option<usize>>(&mut self, mut read: F) -> bool
+        requires { F.IsAlwaysCallable read }
     {
-        let mut done: usize = 0;
-        while done < buffer.len() {
-            let n = self.read_some(&mut buffer[done..]);
-            if n == 0 {
+        let mut found = false;
+        for _ in 0..u64::MAX {
+            if let Some(n) = read(self.unused()) {
+                self.at = self.at.saturating_add(n);
+                return true;
+            }
+            if self.at < self.len {
+                found = true;
+            }
+            if !self.refill() {
                 break;
             }
-            done = done + n;
         }
-        done
+        found
     }
-}
 
-// What was read and not yet used: the bytes of the buffer from `at` up to `len`.
-#[derive(Clone, Copy)]
-pub struct Window {
-    pub at: usize,
-    pub len: usize,
-}
-
-// A line, or that there is none, and what is left then.
-#[derive(Clone, Copy)]
-pub struct Taken {
-    pub line: Line,
-    pub found: bool,
-    pub window: Window,
-}
-
-// A command's length, or that its line is missing or cannot be read, and what is left then.
-#[derive(Clone, Copy)]
-pub struct TakenCommand {
-    pub len: MaybeLen,
-    pub window: Window,
-}
-
-// Nothing was read yet.
-pub fn start() -> Window {
-    Window { at: 0, len: 0 }
-}
-
-// How many bytes of the buffer are in use.
-fn used(w: Window, buffer: &[u8]) -> usize
-    ensures { IsPrefixLen result buffer.now }
-{
-    if w.len < buffer.len() {
-        return w.len;
+    pub fn next_line(&mut self) -> Option<Line> {
+        let mut line = Line::blank();
+        self.next(|bytes| line.read(bytes)).then_some(line)
     }
-    buffer.len()
-}
 
-fn refill(source: &mut Source, buffer: &mut [u8]) -> Window {
-    let n = source.read_full(buffer);
-    Window { at: 0, len: n }
-}
+    // The next line as a record; none where it is missing or cannot be read.
+    pub fn next_record(&mut self, lens: &[u8]) -> Option<WalRecord> {
+        record::record_of(&self.next_line()?, lens)
+    }
 
-// The next line. The last one may lack its newline; nothing behind a newline is no line. A proved loop has to end, so turns are
-// counted down from a number that no run uses up.
-pub fn next_line(source: &mut Source, buffer: &mut [u8], window: Window) -> Taken {
-    let mut line = Line::blank();
-    let mut w = window;
-    let mut found = false;
-    let mut turns = u64::MAX;
-    while turns > 0 {
-        let n = used(w, &buffer[..]);
-        let r = line::read_line(&buffer[..n], w.at, line);
-        line = r.line;
-        if r.ended {
-            let left = Window { at: r.next, len: n };
-            return Taken {
-                line: line,
-                found: true,
-                window: left,
-            };
+    // The length of the next line as a command; none where it is missing or cannot be read. Its bytes go to the start of `out`. An
+    // empty line is the empty command.
+    pub fn next_command(&mut self, out: &mut [u8]) -> Option<usize>
+        ensures { IfSome result (λ len. len ≤ 65) }
+    {
+        let mut command = Command::blank();
+        if !self.next(|bytes| command.read(bytes, out)) {
+            return None;
         }
-        if w.at < n {
-            found = true;
-        }
-        w = refill(source, buffer);
-        if w.len == 0 {
-            break;
-        }
-        turns = turns - 1;
-    }
-    Taken {
-        line: line,
-        found: found,
-        window: w,
-    }
-}
-
-// A record, or that its line is missing or cannot be read, and what is left then.
-#[derive(Clone, Copy)]
-pub struct TakenRecord {
-    pub record: MaybeRecord,
-    pub window: Window,
-}
-
-fn record_in(taken: Taken, commands: usize, lens: &[u8]) -> MaybeRecord {
-    if !taken.found {
-        return MaybeRecord::None;
-    }
-    let line = taken.line;
-    record::record_of(line, commands, lens)
-}
-
-// The next line as a record. Most lines stand whole in the buffer; another is read again, in pieces.
-pub fn next_record(
-    source: &mut Source,
-    buffer: &mut [u8],
-    window: Window,
-    commands: usize,
-    lens: &[u8],
-) -> TakenRecord {
-    let n = used(window, &buffer[..]);
-    let r = line::read_line(&buffer[..n], window.at, Line::blank());
-    if r.ended {
-        let line = r.line;
-        let left = Window { at: r.next, len: n };
-        return TakenRecord {
-            record: record::record_of(line, commands, lens),
-            window: left,
-        };
-    }
-    let taken = next_line(source, buffer, window);
-    let left = taken.window;
-    TakenRecord {
-        record: record_in(taken, commands, lens),
-        window: left,
-    }
-}
-
-// The length of a command whose line came; none where no byte of a line did.
-fn len_of(found: bool, c: Command) -> MaybeLen {
-    if !found {
-        return MaybeLen::None;
-    }
-    command::command_len(c)
-}
-
-// The next line as a command: its bytes go to `lent`, from `place` on. An empty line is the empty command.
-pub fn next_command(
-    source: &mut Source,
-    buffer: &mut [u8],
-    window: Window,
-    lent: &mut [u8],
-    place: usize,
-) -> TakenCommand {
-    let mut c = Command::blank();
-    let mut w = window;
-    let mut found = false;
-    let mut turns = u64::MAX;
-    while turns > 0 {
-        let n = used(w, &buffer[..]);
-        let r = command::read_command(&buffer[..n], w.at, c, lent, place);
-        c = r.command;
-        if r.ended {
-            let left = Window { at: r.next, len: n };
-            return TakenCommand {
-                len: command::command_len(c),
-                window: left,
-            };
-        }
-        if w.at < n {
-            found = true;
-        }
-        w = refill(source, buffer);
-        if w.len == 0 {
-            return TakenCommand {
-                len: len_of(found, c),
-                window: w,
-            };
-        }
-        turns = turns - 1;
-    }
-    TakenCommand {
-        len: MaybeLen::None,
-        window: w,
+        command.len()
     }
 }

@@ -2,40 +2,37 @@
 // cannot be read.
 #![tactic(auto)]
 
-ghost use Rattle.io.specs.Counts.{IsPrefixLen};
-
+use journal::Stop;
 use journal::input::Source;
-use journal::{Ended, Stop};
+use storage::RecoveredRaftStorage;
+use tables::Output;
+use text::command::Commands;
 
-// What is printed stands at the start of the buffer then, since nothing of the input is read any more: how many bytes it is.
-fn print(source: &mut Source, buffer: &mut [u8; 65536], ended: Ended, store: &[u8]) -> usize
-    ensures { IsPrefixLen result buffer.new }
-{
-    let stop = ended.stop;
-    match stop {
-        Stop::Malformed(line) => tables::write_malformed(line, buffer),
-        Stop::Refused { lsn, number } => tables::write_refused(lsn, number, buffer),
-        Stop::None => {
-            let left = ended.window;
-            if journal::goes_on(source, buffer, left) {
-                return tables::write_malformed(ended.line, buffer);
-            }
-            let state = ended.state;
-            let done = finishing::finish(state, store);
-            let last = done.state;
-            tables::write_tables(last, buffer)
-        }
+// What the whole input recovers: a line behind the last record is one too many.
+fn recovered(source: &mut Source, store: &mut [u8]) -> Result<RecoveredRaftStorage, Stop> {
+    let recovered = journal::recover(source, &mut Commands::none(), store)?;
+    if source.next_line().is_some() {
+        return Err(Stop::Malformed(recovered.line));
+    }
+    Ok(recovered.state)
+}
+
+// What is printed.
+fn print(answer: Result<RecoveredRaftStorage, Stop>, store: &[u8], out: &mut Output<65536>) {
+    match answer {
+        Ok(state) => tables::write_tables(finishing::finish(state, store).state, out),
+        Err(Stop::Malformed(line)) => tables::write_malformed(line, out),
+        Err(Stop::Refused { lsn, why }) => tables::write_refused(lsn.0, why.number(), out),
     }
 }
 
 fn main(rt: HostRuntime) -> std::io::Result<()> {
-    let mut source = Source::new(rt.stdin());
     let mut buffer = io::large_buffer();
-    let mut lent = [0u8; 16640];
-    let mut lens = [0u8; 256];
     let mut store = [0u8; 32768];
-    let ended = journal::recover(&mut source, &mut buffer, &mut lent, &mut lens, &mut store);
-    let n = print(&mut source, &mut buffer, ended, &store);
+    let mut source = Source::new(rt.stdin(), &mut buffer);
+    let answer = recovered(&mut source, &mut store);
     source.outcome()?;
-    rt.write_all(&buffer[..n])
+    let mut out = Output::new();
+    print(answer, &store, &mut out);
+    rt.write_all(out.as_slice())
 }
