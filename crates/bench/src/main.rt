@@ -3,218 +3,156 @@
 // record. It prints the count of scanned records, summed over the rounds.
 #![tactic(auto)]
 
-use codec::{Checksum, RaftSnapshotPointerRecord, RaftWalRecord, RecordBody, WalRecord};
+ghost use Rattle.std.specs.Prelude.{◌<◌};
+
+use codec::{Checksum, RaftSnapshotPointerRecord, RaftWalRecord, WalRecord};
 use ids::{Lsn, RaftReplicaIdentity};
 use recovery::observing;
-use std::io;
 use std::io::Read;
+use std::{array, io};
 use storage::RecoveredRaftStorage;
 
-// The last index of each replica, and the command of its last entry.
-#[derive(Clone, Copy)]
-struct Replicas {
-    last: [u64; 6],
-    command: [usize; 6],
-}
-
-// The records of a chunk, and what the replicas are then.
-#[derive(Clone, Copy)]
-struct Making {
-    records: [WalRecord; 256],
-    replicas: Replicas,
-}
-
-#[derive(Clone, Copy)]
-struct Chunk {
-    records: [WalRecord; 256],
+// The last index of a replica, and the command of its last entry.
+#[derive(Clone, Copy, Debug, PartialEq, Eq)]
+struct Replica {
+    last: u64,
+    command: usize,
 }
 
 fn pointer(identity: RaftReplicaIdentity, index: u64) -> RaftWalRecord {
-    let checksum = Checksum {
-        a: 1,
-        b: 2,
-        c: 3,
-        d: 4,
-    };
     RaftWalRecord::SnapshotPointer(RaftSnapshotPointerRecord {
         format_version: 1,
-        identity: identity,
+        identity,
         snapshot_id: 7,
         last_included_index: index,
         last_included_term: 1,
         applied_index: index,
         size_bytes: 77,
         rest: 5,
-        checksum: checksum,
+        checksum: Checksum {
+            a: 1,
+            b: 2,
+            c: 3,
+            d: 4,
+        },
     })
 }
 
 // The number that is at least 1 and n less.
 fn less(x: u64, n: u64) -> u64 {
-    if x <= n {
-        return 1;
-    }
-    x - n
-}
-
-// Record k of a replica that last kept an index, with a command: of 40, the last is a pointer 5 below; of 4, the last is a hard
-// state; of 16, one repeats the last entry; the others append.
-fn made(p: usize, k: usize, last: u64, command: usize) -> RaftWalRecord {
-    let own = bench_records::identity(p);
-    if k % 40 == 39 {
-        return pointer(own, less(last, 5));
-    }
-    if k % 4 == 3 {
-        return bench_records::hard_state(own, less(last, 1));
-    }
-    if k % 16 == 5 {
-        return bench_records::entry(own, last, command);
-    }
-    if last < 1000000 {
-        return bench_records::entry(own, last + 1, k);
-    }
-    bench_records::entry(own, 1, k)
+    x.saturating_sub(n).max(1)
 }
 
 fn appends(k: usize) -> bool {
-    if k % 40 == 39 {
-        return false;
-    }
-    if k % 4 == 3 {
-        return false;
-    }
-    k % 16 != 5
+    k % 40 != 39 && k % 4 != 3 && k % 16 != 5
 }
 
-// The 256 records from `from` on.
-fn make_chunk(replicas: Replicas, from: usize) -> Making {
-    let first = WalRecord {
-        lsn: Lsn::ZERO,
-        body: RecordBody::Foreign,
-    };
-    let mut records = [first; 256];
-    let mut r = replicas;
-    let mut j: usize = 0;
-    while j < 256 {
-        let i = from % 4096 + j;
-        let p = i % 6;
-        let k = i / 6;
-        let last = r.last[p];
-        let kind = made(p, k, last, r.command[p]);
-        let body = RecordBody::Raft(kind);
-        let lsn = Lsn(1 + i as u64);
-        let record = WalRecord {
-            lsn: lsn,
-            body: body,
-        };
-        records[j] = record;
-        if appends(k) {
-            if last < 1000000 {
-                r.last[p] = last + 1;
-                r.command[p] = k;
-            }
+impl Replica {
+    // What it is after its record k.
+    fn after(self, k: usize) -> Replica {
+        if appends(k) && self.last < 1000000 {
+            return Replica {
+                last: self.last + 1,
+                command: k,
+            };
         }
-        j = j + 1;
+        self
     }
-    Making {
-        records: records,
-        replicas: r,
+
+    // Its record k: of 40, the last is a pointer 5 below; of 4, the last is a hard state; of 16, one repeats the last entry; the
+    // others append.
+    fn record(self, identity: RaftReplicaIdentity, k: usize) -> RaftWalRecord {
+        if k % 40 == 39 {
+            return pointer(identity, less(self.last, 5));
+        }
+        if k % 4 == 3 {
+            return bench_records::hard_state(identity, less(self.last, 1));
+        }
+        if k % 16 == 5 {
+            return bench_records::entry(identity, self.last, self.command);
+        }
+        if self.last < 1000000 {
+            return bench_records::entry(identity, self.last + 1, k);
+        }
+        bench_records::entry(identity, 1, k)
     }
 }
 
-fn make_journal() -> [Chunk; 16] {
-    let first = WalRecord {
+// The journal's record i.
+fn next_record(replicas: &mut [Replica; 6], i: usize) -> WalRecord
+    requires { i < 4096 }
+{
+    let p = i % 6;
+    let k = i / 6;
+    let replica = replicas[p];
+    replicas[p] = replica.after(k);
+    WalRecord {
+        lsn: Lsn(1 + i as u64),
+        body: Some(replica.record(bench_records::identity(p), k)),
+    }
+}
+
+// In chunks of 256 records.
+fn make_journal() -> [[WalRecord; 256]; 16] {
+    let blank = WalRecord {
         lsn: Lsn::ZERO,
-        body: RecordBody::Foreign,
+        body: None,
     };
-    let records = [first; 256];
-    let blank = Chunk { records: records };
-    let mut chunks = [blank; 16];
-    let mut r = Replicas {
-        last: [0; 6],
-        command: [0; 6],
-    };
-    let mut j: usize = 0;
-    while j < 16 {
-        let m = make_chunk(r, 256 * j);
-        let own = m.records;
-        let chunk = Chunk { records: own };
-        chunks[j] = chunk;
-        r = m.replicas;
-        j = j + 1;
+    let mut chunks = [[blank; 256]; 16];
+    let mut replicas = [Replica {
+        last: 0,
+        command: 0,
+    }; 6];
+    for i in 0..4096 {
+        chunks[i / 256][i % 256] = next_record(&mut replicas, i);
     }
     chunks
 }
 
-// All chunks, then finished, in each round; the counts of scanned records, summed.
-fn by_chunks(chunks: [Chunk; 16], rounds: u64, lent: &[u8], store: &mut [u8]) -> u64 {
-    let n = store.len();
-    let mut sum: u64 = 0;
-    let mut k: u64 = 0;
-    while k < rounds {
-        store::clear(store, 0, n);
-        let mut t = RecoveredRaftStorage::fresh();
-        let mut j: usize = 0;
-        while j < 16 {
-            let c = chunks[j];
-            let records = c.records;
-            let d = observing::observe_records(t, records, 256, lent, store);
-            t = d.state;
-            j = j + 1;
-        }
-        let done = finishing::finish(t, &store[..]);
-        let last = done.state;
-        sum = bench_records::added(sum, last.scan.scanned_records);
-        k = k + 1;
-    }
-    sum
-}
-
-// One call a record.
+// A chunk by one call a record.
 fn one_by_one(
-    records: [WalRecord; 256],
     t: RecoveredRaftStorage,
+    records: &[WalRecord; 256],
     lent: &[u8],
     store: &mut [u8],
 ) -> RecoveredRaftStorage {
     let mut s = t;
-    let mut i: usize = 0;
-    while i < 256 {
-        let r = records[i];
-        let d = observing::observe_record(s, r, lent, store);
-        s = d.state;
-        i = i + 1;
+    for r in records {
+        s = observing::observe_record(s, *r, lent, store).state;
     }
     s
 }
 
-fn by_calls(chunks: [Chunk; 16], rounds: u64, lent: &[u8], store: &mut [u8]) -> u64 {
-    let n = store.len();
-    let mut sum: u64 = 0;
-    let mut k: u64 = 0;
-    while k < rounds {
-        store::clear(store, 0, n);
-        let mut t = RecoveredRaftStorage::fresh();
-        let mut j: usize = 0;
-        while j < 16 {
-            let c = chunks[j];
-            let records = c.records;
-            t = one_by_one(records, t, lent, store);
-            j = j + 1;
-        }
-        let done = finishing::finish(t, &store[..]);
-        let last = done.state;
-        sum = bench_records::added(sum, last.scan.scanned_records);
-        k = k + 1;
+// The count of scanned records when all chunks are observed, then finished.
+fn scanned<F: Fn(RecoveredRaftStorage, &[WalRecord; 256], &mut [u8]) -> RecoveredRaftStorage>(
+    observe: F,
+    chunks: &[[WalRecord; 256]; 16],
+    store: &mut [u8],
+) -> u64
+    requires { F.IsAlwaysCallable observe }
+{
+    store.fill(0);
+    let mut t = RecoveredRaftStorage::fresh();
+    for records in chunks {
+        t = observe(t, records, store);
     }
-    sum
+    finishing::finish(t, store).state.scan.scanned_records
 }
 
-fn summed(mode: u8, chunks: [Chunk; 16], rounds: u64, lent: &[u8], store: &mut [u8]) -> u64 {
-    if mode == b'2' {
-        return by_calls(chunks, rounds, lent, store);
+// The counts of all rounds, summed.
+fn summed<F: Fn(RecoveredRaftStorage, &[WalRecord; 256], &mut [u8]) -> RecoveredRaftStorage>(
+    observe: F,
+    chunks: &[[WalRecord; 256]; 16],
+    rounds: u64,
+    store: &mut [u8],
+) -> u64
+    requires { F.IsAlwaysCallable observe }
+{
+    let mut sum: u64 = 0;
+    for _ in 0..rounds {
+        sum = bench_records::added(sum, scanned(&observe, chunks, store));
     }
-    by_chunks(chunks, rounds, lent, store)
+    sum
 }
 
 fn main(rt: HostRuntime) -> io::Result<()> {
@@ -222,16 +160,23 @@ fn main(rt: HostRuntime) -> io::Result<()> {
     for (place, byte) in input.iter_mut().zip(rt.stdin().bytes()) {
         *place = byte?;
     }
-    let mut lent = [0u8; 8192];
-    let mut i: usize = 0;
-    while i < 8192 {
-        lent[i] = (i % 251) as u8;
-        i = i + 1;
-    }
+    let lent: [u8; 8192] = array::from_fn(|i| (i % 251) as u8);
     let mut store = [0u8; 32768];
     let chunks = make_journal();
-    let mode = input[0];
     let rounds = bench_records::rounds_of(input[2]);
-    let sum = summed(mode, chunks, rounds, &lent, &mut store);
+    let sum = match input[0] {
+        b'2' => summed(
+            |t, records, store| one_by_one(t, records, &lent, store),
+            &chunks,
+            rounds,
+            &mut store,
+        ),
+        _ => summed(
+            |t, records, store| observing::observe_records(t, *records, 256, &lent, store).state,
+            &chunks,
+            rounds,
+            &mut store,
+        ),
+    };
     rt.println(sum)
 }

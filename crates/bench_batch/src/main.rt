@@ -3,12 +3,14 @@
 // share is compiled in less well, and observing takes longer.)
 #![tactic(auto)]
 
+ghost use Rattle.std.specs.Prelude.{◌<◌};
+
 use batches::{BatchEntries, RaftPersistenceBatch};
-use codec::{HardState, MaybeHardState, MaybePointer, RaftWalRecord, RecordBody, Vote, WalRecord};
+use codec::{HardState, RaftWalRecord, WalRecord};
 use ids::Lsn;
 use recovery::observing;
-use std::io;
 use std::io::Read;
+use std::{array, io};
 use storage::RecoveredRaftStorage;
 
 fn observed(
@@ -18,86 +20,54 @@ fn observed(
     lent: &[u8],
     store: &mut [u8],
 ) -> RecoveredRaftStorage {
-    let body = RecordBody::Raft(kind);
     let r = WalRecord {
         lsn: Lsn(lsn),
-        body: body,
+        body: Some(kind),
     };
-    let d = observing::observe_record(t, r, lent, store);
-    let next = d.state;
-    next
+    observing::observe_record(t, r, lent, store).state
 }
 
 fn kept(lent: &[u8], store: &mut [u8]) -> RecoveredRaftStorage {
+    let own = bench_records::identity(0);
     let mut t = RecoveredRaftStorage::fresh();
-    let mut i: u64 = 1;
-    while i < 33 {
-        t = observed(
-            t,
-            bench_records::entry(bench_records::identity(0), i, 0),
-            i,
-            lent,
-            store,
-        );
-        i = i + 1;
+    for i in 1..33 {
+        t = observed(t, bench_records::entry(own, i, 0), i, lent, store);
     }
-    t = observed(
-        t,
-        bench_records::hard_state(bench_records::identity(0), 32),
-        33,
-        lent,
-        store,
-    );
-    let done = finishing::finish(t, &store[..]);
-    let last = done.state;
-    last
+    t = observed(t, bench_records::hard_state(own, 32), 33, lent, store);
+    finishing::finish(t, store).state
 }
 
 fn batch(commit: u64) -> RaftPersistenceBatch {
-    let mut index = [0u64; 32];
-    let mut i: usize = 0;
-    while i < 32 {
-        index[i] = 33 + i as u64;
-        i = i + 1;
-    }
-    let entries = BatchEntries {
-        count: 32,
-        index: index,
-        term: [1u64; 32],
-        kind: [0u64; 32],
-        first: [0u64; 32],
-        second: [32u64; 32],
-    };
-    let vote = Vote::None;
-    let h = HardState {
-        current_term: 2,
-        voted_for: vote,
-        commit: commit,
-    };
-    let hard_state = MaybeHardState::Some(h);
     RaftPersistenceBatch {
-        snapshot: MaybePointer::None,
-        entries: entries,
-        hard_state: hard_state,
+        snapshot: None,
+        entries: BatchEntries {
+            count: 32,
+            index: array::from_fn(|i| 33 + i as u64),
+            term: [1; 32],
+            kind: [0; 32],
+            first: [0; 32],
+            second: [32; 32],
+        },
+        hard_state: Some(HardState {
+            current_term: 2,
+            voted_for: None,
+            commit,
+        }),
     }
 }
 
-// A hundred preparations a round; the counts of their records, summed.
-fn prepared(rounds: u64, lent: &[u8], store: &mut [u8]) -> u64 {
+// A hundred preparations a round, of two batches in turn; the counts of their records, summed.
+fn prepared(rounds: u64, lent: &[u8], store: &mut [u8]) -> u64
+    requires { rounds < 100 }
+{
+    let own = bench_records::identity(0);
     let t = kept(lent, store);
-    let first = batch(40);
-    let mut pair = [first; 2];
-    let second = batch(41);
-    pair[1] = second;
+    let pair = [batch(40), batch(41)];
     let mut sum: u64 = 0;
-    let mut k: u64 = 0;
-    let mut n: usize = 0;
-    while k < 100 * (rounds % 100) {
-        let b = pair[n % 2];
-        let d = persistence::prepare_batch(t, &store[..], bench_records::identity(0), b, lent);
+    for k in 0..100 * rounds {
+        let b = pair[(k % 2) as usize];
+        let d = persistence::prepare_batch(t, store, own, b, lent);
         sum = bench_records::added(sum, d.count as u64);
-        n = (n + 1) % 2;
-        k = k + 1;
     }
     sum
 }

@@ -5,7 +5,6 @@ ghost use Rattle.std.specs.Prelude.{◌<◌};
 
 use codec::{
     DurableRaftEntryPayload, HardState, RaftHardStateRecord, RaftLogEntryRecord, RaftWalRecord,
-    Vote,
 };
 use ids::{RaftGroupId, RaftReplicaIdentity, ReplicaId};
 
@@ -20,30 +19,27 @@ pub fn identity(p: usize) -> RaftReplicaIdentity {
 
 // A command of 32 bytes, one of 256.
 pub fn entry(identity: RaftReplicaIdentity, index: u64, command: usize) -> RaftWalRecord {
-    let payload = DurableRaftEntryPayload::Normal {
-        place: 32 * (command % 256),
-        len: 32,
-    };
     RaftWalRecord::Entry(RaftLogEntryRecord {
         format_version: 1,
-        identity: identity,
-        index: index,
+        identity,
+        index,
         term: 1,
-        payload: payload,
+        payload: DurableRaftEntryPayload::Normal {
+            place: 32 * (command % 256),
+            len: 32,
+        },
     })
 }
 
 pub fn hard_state(identity: RaftReplicaIdentity, commit: u64) -> RaftWalRecord {
-    let vote = Vote::Some(ReplicaId(3));
-    let kept = HardState {
-        current_term: 1,
-        voted_for: vote,
-        commit: commit,
-    };
     RaftWalRecord::HardState(RaftHardStateRecord {
         format_version: 1,
-        identity: identity,
-        hard_state: kept,
+        identity,
+        hard_state: HardState {
+            current_term: 1,
+            voted_for: Some(ReplicaId(3)),
+            commit,
+        },
     })
 }
 
@@ -51,19 +47,13 @@ pub fn hard_state(identity: RaftReplicaIdentity, commit: u64) -> RaftWalRecord {
 pub fn rounds_of(digit: u8) -> u64
     ensures { result < 100 }
 {
-    if digit < 48 {
-        return 0;
+    match digit {
+        b'0'..=b'9' => 10 * u64::from(digit - b'0'),
+        _ => 0,
     }
-    if 57 < digit {
-        return 0;
-    }
-    10 * (digit - 48) as u64
 }
 
 // A sum, as far as 64 bits go.
 pub fn added(a: u64, b: u64) -> u64 {
-    if b <= u64::MAX - a {
-        return a + b;
-    }
-    a
+    a.checked_add(b).unwrap_or(a)
 }

@@ -5,7 +5,6 @@
 mod broken;
 mod odd;
 mod records;
-mod same;
 mod states;
 mod text;
 mod trying;
@@ -13,30 +12,20 @@ mod trying;
 use recovery::observing;
 use std::io;
 use storage::RecoveredRaftStorage;
+use trying::Trial;
 
 // How many of 256 records a chunk takes that is said to have `count`.
 fn taken_of(count: usize) -> usize {
     let mut store = [0u8; 32768];
     let s = RecoveredRaftStorage::fresh();
-    let done = observing::observe_records(s, records::foreign_records(), count, b"", &mut store);
-    done.taken
-}
-
-fn chunk_size(rt: &impl Print, count: usize) -> io::Result<()> {
-    text::put(rt, b"chunk")?;
-    text::number(rt, count as u64)?;
-    text::put(rt, b" taken")?;
-    text::number(rt, taken_of(count) as u64)?;
-    text::put(rt, b"\n")
+    observing::observe_records(s, records::foreign_records(), count, b"", &mut store).taken
 }
 
 fn chunk_sizes(rt: &impl Print) -> io::Result<()> {
-    chunk_size(rt, 0)?;
-    chunk_size(rt, 1)?;
-    chunk_size(rt, 255)?;
-    chunk_size(rt, 256)?;
-    chunk_size(rt, 257)?;
-    chunk_size(rt, usize::MAX)
+    for count in [0, 1, 255, 256, 257, usize::MAX] {
+        println!(rt; "chunk {count} taken {}", taken_of(count))?;
+    }
+    Ok(())
 }
 
 // A small state with two replicas, and the odd and broken ones made from it.
@@ -44,9 +33,13 @@ fn states_by_hand(rt: &impl Print, lent: &[u8]) -> io::Result<()> {
     let mut store = [0u8; 32768];
     let s = RecoveredRaftStorage::fresh();
     let done = observing::observe_records(s, records::two_replicas(), 7, lent, &mut store);
-    let state = done.state;
-    odd::all(rt, state, &store)?;
-    broken::all(rt, state, &store)
+    let from = Trial {
+        rt,
+        state: done.state,
+        store: &store,
+    };
+    odd::all(&from)?;
+    broken::all(&from)
 }
 
 fn main(rt: HostRuntime) -> io::Result<()> {

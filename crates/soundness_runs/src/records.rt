@@ -1,9 +1,10 @@
 // Records: of no Raft kind, and the seven that leave a small state with two replicas.
 use codec::{
     Checksum, DurableRaftEntryPayload, HardState, RaftHardStateRecord, RaftLogEntryRecord,
-    RaftSnapshotPointerRecord, RaftWalRecord, RecordBody, Vote, WalRecord,
+    RaftSnapshotPointerRecord, RaftWalRecord, WalRecord,
 };
 use ids::{Lsn, RaftGroupId, RaftReplicaIdentity, ReplicaId};
+use std::array;
 
 pub fn identity(group: u64, replica: u64) -> RaftReplicaIdentity {
     RaftReplicaIdentity {
@@ -15,7 +16,7 @@ pub fn identity(group: u64, replica: u64) -> RaftReplicaIdentity {
 pub fn foreign(lsn: u64) -> WalRecord {
     WalRecord {
         lsn: Lsn(lsn),
-        body: RecordBody::Foreign,
+        body: None,
     }
 }
 
@@ -26,37 +27,28 @@ fn entry(
     place: usize,
     len: usize,
 ) -> RaftWalRecord {
-    let payload = DurableRaftEntryPayload::Normal { place, len };
     RaftWalRecord::Entry(RaftLogEntryRecord {
         format_version: 1,
         identity: owner,
         index,
         term,
-        payload,
+        payload: DurableRaftEntryPayload::Normal { place, len },
     })
 }
 
 fn hard_state(owner: RaftReplicaIdentity, term: u64, voted: u64, commit: u64) -> RaftWalRecord {
-    let voted_for = Vote::Some(ReplicaId(voted));
-    let hard_state = HardState {
-        current_term: term,
-        voted_for,
-        commit,
-    };
     RaftWalRecord::HardState(RaftHardStateRecord {
         format_version: 1,
         identity: owner,
-        hard_state,
+        hard_state: HardState {
+            current_term: term,
+            voted_for: Some(ReplicaId(voted)),
+            commit,
+        },
     })
 }
 
 pub fn pointer(owner: RaftReplicaIdentity, index: u64, term: u64) -> RaftSnapshotPointerRecord {
-    let checksum = Checksum {
-        a: 506097522914230528,
-        b: 1,
-        c: 18446744073709551615,
-        d: 81985529216486895,
-    };
     RaftSnapshotPointerRecord {
         format_version: 1,
         identity: owner,
@@ -66,15 +58,19 @@ pub fn pointer(owner: RaftReplicaIdentity, index: u64, term: u64) -> RaftSnapsho
         applied_index: index,
         size_bytes: 9,
         rest: 2,
-        checksum,
+        checksum: Checksum {
+            a: 506097522914230528,
+            b: 1,
+            c: u64::MAX,
+            d: 81985529216486895,
+        },
     }
 }
 
 fn at(lsn: u64, kind: RaftWalRecord) -> WalRecord {
-    let body = RecordBody::Raft(kind);
     WalRecord {
         lsn: Lsn(lsn),
-        body: body,
+        body: Some(kind),
     }
 }
 
@@ -83,8 +79,7 @@ fn at(lsn: u64, kind: RaftWalRecord) -> WalRecord {
 pub fn two_replicas() -> [WalRecord; 256] {
     let one = identity(1, 1);
     let two = identity(2, 3);
-    let last = foreign(0);
-    let mut all = [last; 256];
+    let mut all = [foreign(0); 256];
     all[0] = at(3, entry(one, 1, 1, 1, 5));
     all[1] = at(4, entry(one, 2, 1, 2, 64));
     all[2] = at(6, hard_state(one, 1, 2, 1));
@@ -97,13 +92,5 @@ pub fn two_replicas() -> [WalRecord; 256] {
 
 // 256 records of no Raft kind, with rising LSNs.
 pub fn foreign_records() -> [WalRecord; 256] {
-    let first = foreign(0);
-    let mut all = [first; 256];
-    let mut i: usize = 0;
-    while i < 256 {
-        let next = foreign(i as u64);
-        all[i] = next;
-        i = i + 1;
-    }
-    all
+    array::from_fn(|i| foreign(i as u64))
 }

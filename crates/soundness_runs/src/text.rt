@@ -1,38 +1,15 @@
 // Answers as text on standard output.
-use finishing::FinishAnswer;
-use replay::Observation;
+use ids::Refusal;
 use std::io;
 
-pub fn put(rt: &impl Print, words: &[u8]) -> io::Result<()> {
-    rt.write_all(words)
+pub fn yes_or_no(b: bool) -> &'static str {
+    if b { "yes" } else { "no" }
 }
 
-// A space and a number.
-pub fn number(rt: &impl Print, n: u64) -> io::Result<()> {
-    put(rt, b" ")?;
-    rt.print(n)
-}
-
-pub fn yes_or_no(rt: &impl Print, b: bool) -> io::Result<()> {
-    if b {
-        return put(rt, b" yes");
+// A refusal's number, or the word for an answer that is none.
+pub fn answer<T>(rt: &impl Print, accepted: &str, answer: &Result<T, Refusal>) -> io::Result<()> {
+    match answer {
+        Ok(_) => print!(rt; "{accepted}"),
+        Err(why) => print!(rt; "refused {}", why.number()),
     }
-    put(rt, b" no")
-}
-
-// Of a record of no Raft kind.
-pub fn answer(rt: &impl Print, a: Observation) -> io::Result<()> {
-    let Observation::Refused(why) = a else {
-        return put(rt, b" foreign");
-    };
-    put(rt, b" refused")?;
-    number(rt, why.number())
-}
-
-pub fn finish_answer(rt: &impl Print, a: FinishAnswer) -> io::Result<()> {
-    let FinishAnswer::Refused(why) = a else {
-        return put(rt, b" finished");
-    };
-    put(rt, b" refused")?;
-    number(rt, why.number())
 }

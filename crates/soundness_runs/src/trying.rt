@@ -1,142 +1,90 @@
 // A state made by hand is observed once and finished, each time as it stands, and the answers are printed.
-use crate::{records, same, text};
-use finishing::FinishAnswer;
+use crate::{records, text};
+use ids::Refusal;
 use recovery::observing;
 use replay::Observation;
 use std::io;
 use storage::RecoveredRaftStorage;
 
 // Both answers, whether state and store stayed as they were, and whether they are sound.
-#[derive(Clone, Copy)]
+#[derive(Clone, Copy, Debug, PartialEq, Eq)]
 struct Tried {
-    observed: Observation,
-    finished: FinishAnswer,
+    observed: Result<Observation, Refusal>,
+    finished: Result<(), Refusal>,
     kept: bool,
     sound: bool,
 }
 
-// One answer, and whether it left all as it was.
-#[derive(Clone, Copy)]
-struct Observing {
-    answer: Observation,
-    kept: bool,
-}
-
-#[derive(Clone, Copy)]
-struct Finishing {
-    answer: FinishAnswer,
-    kept: bool,
-}
-
-// Whether nothing changed.
-fn kept(s: RecoveredRaftStorage, after: RecoveredRaftStorage, store: &[u8], was: &[u8]) -> bool {
-    if !same::states(s, after) {
-        return false;
-    }
-    store::same_bytes(store, was)
-}
-
-// A foreign record at the last LSN.
-fn try_observing(s: RecoveredRaftStorage, store: &mut [u8], was: &[u8]) -> Observing {
-    let done = observing::observe_record(s, records::foreign(u64::MAX), b"", store);
-    let answer = done.answer;
-    let after = done.state;
-    Observing {
-        answer,
-        kept: kept(s, after, &store[..], was),
-    }
-}
-
-fn try_finishing(s: RecoveredRaftStorage, store: &[u8]) -> Finishing {
-    let done = finishing::finish(s, store);
-    let answer = done.answer;
-    let after = done.state;
-    Finishing {
-        answer,
-        kept: same::states(s, after),
-    }
-}
-
-// Both, of the same state.
-fn try_both(s: RecoveredRaftStorage, store: &mut [u8], was: &[u8]) -> Tried {
-    let first = try_observing(s, store, was);
-    let second = try_finishing(s, was);
-    let observed = first.answer;
-    let finished = second.answer;
+// A foreign record at the last LSN is observed with a copy of the store, and the same state is finished.
+fn try_both(s: RecoveredRaftStorage, copy: &mut [u8], store: &[u8]) -> Tried {
+    let observed = observing::observe_record(s, records::foreign(u64::MAX), b"", copy);
+    let finished = finishing::finish(s, store);
     Tried {
-        observed,
-        finished,
-        kept: first.kept & second.kept,
-        sound: soundness::is_sound(s, was),
+        observed: observed.answer,
+        finished: finished.answer,
+        kept: observed.state == s && *copy == *store && finished.state == s,
+        sound: soundness::is_sound(&s, store),
     }
 }
 
-fn answers(rt: &impl Print, name: &[u8], t: Tried) -> io::Result<()> {
-    text::put(rt, name)?;
-    text::put(rt, b" observe")?;
-    let observed = t.observed;
-    text::answer(rt, observed)?;
-    text::put(rt, b" finish")?;
-    let finished = t.finished;
-    text::finish_answer(rt, finished)
+fn answers(rt: &impl Print, t: Tried) -> io::Result<()> {
+    print!(rt; " observe ")?;
+    text::answer(rt, "foreign", &t.observed)?;
+    print!(rt; " finish ")?;
+    text::answer(rt, "finished", &t.finished)
 }
 
-// The store's bytes at the front of another.
-pub fn fill(copy: &mut [u8], store: &[u8]) {
-    if copy.len() < store.len() {
-        return;
-    }
-    store::copy_in(copy, 0, store);
+fn broken_line(rt: &impl Print, name: &str, t: Tried) -> io::Result<()> {
+    print!(rt; "broken {name}")?;
+    answers(rt, t)?;
+    println!(rt;
+        " kept {} sound {}",
+        text::yes_or_no(t.kept),
+        text::yes_or_no(t.sound)
+    )
 }
 
-fn broken_line(rt: &impl Print, name: &[u8], t: Tried) -> io::Result<()> {
-    text::put(rt, b"broken ")?;
-    answers(rt, name, t)?;
-    text::put(rt, b" kept")?;
-    text::yes_or_no(rt, t.kept)?;
-    text::put(rt, b" sound")?;
-    text::yes_or_no(rt, t.sound)?;
-    text::put(rt, b"\n")
-}
-
-// A state that has to be refused by 1, with a copy of a store.
-pub fn broken(
+// A state that has to be refused by 1, with a store of any length.
+pub fn broken<const N: usize>(
     rt: &impl Print,
-    name: &[u8],
+    name: &str,
     s: RecoveredRaftStorage,
-    store: &[u8],
+    store: &[u8; N],
 ) -> io::Result<()> {
-    let mut copy = [0u8; 32768];
-    fill(&mut copy, store);
-    let t = try_both(s, &mut copy, store);
-    broken_line(rt, name, t)
+    let mut copy = *store;
+    broken_line(rt, name, try_both(s, &mut copy, store))
 }
 
-// The same with a store that lacks its last byte.
-pub fn broken_short(
+// A state that is sound, with a store of any length.
+fn odd<const N: usize>(
     rt: &impl Print,
-    name: &[u8],
+    name: &str,
     s: RecoveredRaftStorage,
-    store: &[u8],
+    store: &[u8; N],
 ) -> io::Result<()> {
-    let n: usize = 32767;
-    if store.len() < n {
-        return Ok(());
-    }
-    let mut copy = [0u8; 32768];
-    fill(&mut copy, store);
-    let t = try_both(s, &mut copy[0..n], &store[0..n]);
-    broken_line(rt, name, t)
+    let mut copy = *store;
+    let t = try_both(s, &mut copy, store);
+    print!(rt; "odd {name}")?;
+    answers(rt, t)?;
+    println!(rt; " sound {}", text::yes_or_no(t.sound))
 }
 
-// A state that is sound.
-pub fn odd(rt: &impl Print, name: &[u8], s: RecoveredRaftStorage, store: &[u8]) -> io::Result<()> {
-    let mut copy = [0u8; 32768];
-    fill(&mut copy, store);
-    let t = try_both(s, &mut copy, store);
-    text::put(rt, b"odd ")?;
-    answers(rt, name, t)?;
-    text::put(rt, b" sound")?;
-    text::yes_or_no(rt, t.sound)?;
-    text::put(rt, b"\n")
+// Where the lines go, the state that others are made from, and the store beside them.
+#[derive(Drop)]
+pub struct Trial<'a, P: Print> {
+    pub rt: &'a P,
+    pub state: RecoveredRaftStorage,
+    pub store: &'a [u8; 32768],
+}
+
+impl<'a, P: Print> Trial<'a, P> {
+    // A state that has to be refused by 1.
+    pub fn broken(&self, name: &str, s: RecoveredRaftStorage) -> io::Result<()> {
+        broken(self.rt, name, s, self.store)
+    }
+
+    // A state that is sound.
+    pub fn odd(&self, name: &str, s: RecoveredRaftStorage) -> io::Result<()> {
+        odd(self.rt, name, s, self.store)
+    }
 }
