@@ -23,8 +23,7 @@ MACHINERY = {               # not rules: tables, options and lists, or what only
     'Table': ['same_bytes', 'present', 'every', 'all_of', 'if_some', 'is_some', 'or_zero', 'unless', 'first_of', '◌=?◌', '◌≠?◌', '◌<?◌', '◌≤?◌'],
 }
 IMPORTS = {                 # names that a mutant may need
-    'Rattle.std.specs.Prelude': ['Bool', 'true', 'false', '◌&&◌', '◌||◌', 'not', 'min', 'max'],
-    'Rattle.std.proofs.Math.Option': ['none', 'some'],
+    'Rattle.std.specs.Prelude': ['Bool', 'true', 'false', '◌&&◌', '◌||◌', 'not', 'min', 'max', 'None', 'Some'],
     'Rattle.definition.specs.Table': ['◌=?◌', '◌≠?◌', '◌<?◌', '◌≤?◌', 'u64_max'],
 }
 SWAPS = [('.last_included_index', '.last_included_term'), ('.snapshot_index', '.snapshot_term'), ('.group', '.replica'), ('.current_term', '.commit'),
@@ -32,10 +31,10 @@ SWAPS = [('.last_included_index', '.last_included_term'), ('.snapshot_index', '.
          ('.index', '.term'), ('was.hard_state', 'v.log.hard_state'), ('kept_pointer i was', 'kept_pointer i v.log'), ('.committed_index', '.snapshot_index')]
 OTHER = {                   # what a field of an effect may wrongly become
     'entries': ['[]', 'log.entries'], 'snapshot_index': ['0', 'log.snapshot_index'], 'snapshot_term': ['0', 'log.snapshot_term'],
-    'committed_index': ['0', 'log.committed_index'], 'last_replayed_lsn': ['none', 'log.last_replayed_lsn'], 'progress': ['progress_at 0 0', 'log.progress'],
-    'hard_state': ['none', 'log.hard_state'], 'hard_state_lsn': ['none', 'some t', 'log.hard_state_lsn'], 'snapshot': ['none', 'log.snapshot'],
-    'snapshot_pointer_lsn': ['none', 'some t', 'log.snapshot_pointer_lsn'], 'voted_for': ['none', 'o.voted_for'], 'lsn': ['v.lsn'],
-    'last_scanned_lsn': ['none', 's.last_scanned_lsn'], 'replicas': ['[]', 's.replicas'], 'scanned_records': ['s.scanned_records'],
+    'committed_index': ['0', 'log.committed_index'], 'last_replayed_lsn': ['None', 'log.last_replayed_lsn'], 'progress': ['progress_at 0 0', 'log.progress'],
+    'hard_state': ['None', 'log.hard_state'], 'hard_state_lsn': ['None', 'Some t', 'log.hard_state_lsn'], 'snapshot': ['None', 'log.snapshot'],
+    'snapshot_pointer_lsn': ['None', 'Some t', 'log.snapshot_pointer_lsn'], 'voted_for': ['None', 'o.voted_for'], 'lsn': ['v.lsn'],
+    'last_scanned_lsn': ['None', 's.last_scanned_lsn'], 'replicas': ['[]', 's.replicas'], 'scanned_records': ['s.scanned_records'],
 }
 
 # neighbours that stand in expressions: file, declaration, old, new
@@ -52,10 +51,10 @@ MORE = [
     ('Log', 'validate_hard_state_successor', '(h ∷ present old)', '(h ∷ [])'),
     ('Recovery', 'observe_state', 'unsound_state s ∷ non_increasing_wal_lsn s r.lsn ∷ []', 'non_increasing_wal_lsn s r.lsn ∷ unsound_state s ∷ []'),
     ('Recovery', 'visit', 'form_rows i k ++ too_many_replicas full was ∷ []', 'too_many_replicas full was ∷ form_rows i k'),
-    ('Recovery', 'admitted', 'admitted (some n) i k t was = out (refused n) none', 'admitted (some n) i k t was = out (refused n) (some (get_or was empty))'),
-    ('Recovery', 'judged', 'judged (some n) k t log = out (refused n) (some log)', 'judged (some n) k t log = out (refused n) none'),
-    ('Recovery', 'judged', 'judged (some n) k t log = out (refused n) (some log)', 'judged (some n) k t log = out (refused n) (some (accept k t log))'),
-    ('Recovery', 'guarded', 'guarded (some n) s lsn c = out (refused n) s', 'guarded (some n) s lsn c = out (refused n) (scan s lsn s.replicas)'),
+    ('Recovery', 'admitted', 'admitted (Some n) i k t was = out (refused n) None', 'admitted (Some n) i k t was = out (refused n) (Some (unwrap_or was empty))'),
+    ('Recovery', 'judged', 'judged (Some n) k t log = out (refused n) (Some log)', 'judged (Some n) k t log = out (refused n) None'),
+    ('Recovery', 'judged', 'judged (Some n) k t log = out (refused n) (Some log)', 'judged (Some n) k t log = out (refused n) (Some (accept k t log))'),
+    ('Recovery', 'guarded', 'guarded (Some n) s lsn c = out (refused n) s', 'guarded (Some n) s lsn c = out (refused n) (scan s lsn s.replicas)'),
     ('Recovery', 'kept_lsns', 'present log.snapshot_pointer_lsn ++ ', ''),
     ('Recovery', 'kept_lsns', 'present log.hard_state_lsn ++ ', ''),
     ('Recovery', 'kept_lsns', ' ++ present log.last_replayed_lsn', ''),
@@ -64,11 +63,11 @@ MORE = [
     ('Recovery', 'minimum_recovery_lsn', '(least log.hard_state_lsn (first_retained_lsn log))', 'log.hard_state_lsn'),
     ('Recovery', 'finish_state', 'out finished (normalized_state s)', 'out finished s'),
     ('Recovery', 'stored', 'store = layout o.next.replicas', 'store = []'),
-    ('Batch', 'pointed', 'pointed (some p) v = previewed (batch_pointer_rows p v) (preview_pointer p v)', 'pointed (some p) v = previewed (batch_pointer_rows p v) v'),
+    ('Batch', 'pointed', 'pointed (Some p) v = previewed (batch_pointer_rows p v) (preview_pointer p v)', 'pointed (Some p) v = previewed (batch_pointer_rows p v) v'),
     ('Batch', 'extended', '(preview_entry i e.log_entry v) (extended es)', 'v (extended es)'),
     ('Batch', 'hardened', '(preview_hard_state i h v) concluded', 'v concluded'),
-    ('Batch', 'concluded', 'previewed (hard_state_before_log_term b was v ∷ []) v ok', 'ok v'),
-    ('Batch', 'shown_as', 'some f ↦ of_batch f (length bytes)', 'some f ↦ of_log at (length bytes)'),
+    ('Batch', 'concluded', 'previewed (hard_state_before_log_term b was v ∷ []) v Ok', 'Ok v'),
+    ('Batch', 'shown_as', 'Some f ↦ of_batch f (length bytes)', 'Some f ↦ of_log at (length bytes)'),
     ('Batch', 'shown_bytes', 'shown_bytes store lent nothing = []', 'shown_bytes store lent nothing = store'),
     ('Batch', 'shown_bytes', '(of_log from n) = take n (drop from store)', '(of_log from n) = take n (drop from lent)'),
     ('Batch', 'shown_bytes', '(of_log from n) = take n (drop from store)', '(of_log from n) = take from (drop n store)'),
@@ -107,7 +106,7 @@ def mutants():
             if owner in MACHINERY.get(name, []):
                 continue
             for new, what in changes(line, lines, k):
-                if owner in ('empty', 'fresh_state') and re.search(r' to (log|s)\.| to some t$', what):
+                if owner in ('empty', 'fresh_state') and re.search(r' to (log|s)\.| to Some t$', what):
                     continue        # nothing of the kind is in scope there
                 if new != line:
                     yield name, k, new, f'{name}:{k + 1} {owner} {what}'
