@@ -3,7 +3,7 @@
 
 ghost use Rattle.std.specs.Prelude.{◌≡◌, List, ℕ};
 ghost use Rattle.definition.specs.Table.{first_of, if_some};
-ghost use Rattle.definition.specs.Records.{command_of, normal, unfit as isUnfit, zero_configuration_replica, zero_version, zero_vote, same_checksum, same_pointer, form_rows};
+ghost use Rattle.definition.specs.Records.{command_of, normal, unfit as isUnfit, zero_configuration_replica, zero_version, zero_vote, same_checksum, form_rows};
 ghost use Rattle.definition.specs.Log.{hard_state_successor_rows, validate_hard_state_successor, same_pointer_record, validate_snapshot_successor};
 ghost use Rattle.ids.specs.Identity.{identity_of};
 ghost use Rattle.ids.specs.Refusal.{checked_of};
@@ -318,17 +318,6 @@ pub fn validate_hard_state_successor(
         return Err(Refusal::ZeroCurrentTerm);
     }
     hard_state_successor_rows(previous, received)
-}
-
-// Whether two pointers agree in every field but the identity.
-pub fn same_snapshot(p: RaftSnapshotPointerRecord, q: RaftSnapshotPointerRecord) -> bool
-    ensures { result ≡ same_pointer (pointer_of p) (pointer_of q) }
-{
-    let of_one_replica = RaftSnapshotPointerRecord {
-        identity: q.identity,
-        ..p
-    };
-    of_one_replica == q
 }
 
 // A pointer's index is not below that of `old` (39); at the same index it is the same record (40).

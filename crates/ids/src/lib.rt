@@ -2,8 +2,6 @@
 #![tactic(auto)]
 
 ghost use Rattle.std.specs.Prelude.{◌≡◌};
-ghost use Rattle.definition.specs.Records.{same, before as isBefore};
-ghost use Rattle.ids.specs.Identity.{identity_of};
 ghost use Rattle.ids.specs.Refusal.{number_of};
 
 // The place of a record in the journal.
@@ -27,20 +25,6 @@ pub struct ReplicaId(pub u64);
 pub struct RaftReplicaIdentity {
     pub raft_group_id: RaftGroupId,
     pub replica_id: ReplicaId,
-}
-
-// Whether two identities are one.
-pub fn same_identity(a: RaftReplicaIdentity, b: RaftReplicaIdentity) -> bool
-    ensures { result ≡ same (identity_of a) (identity_of b) }
-{
-    a == b
-}
-
-// Whether `a` stands before `b`: by group, then replica.
-pub fn precedes(a: RaftReplicaIdentity, b: RaftReplicaIdentity) -> bool
-    ensures { result ≡ isBefore (identity_of a) (identity_of b) }
-{
-    a < b
 }
 
 // Why a call is refused, in document 01's order; `number` gives its number there.
