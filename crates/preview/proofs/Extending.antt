@@ -5,10 +5,7 @@ use Rattle.std.specs.Prelude.{Option, None, Some, Result, Err}
 use mathlib.Core.Path.{◌≡◌, refl, sym, ap, subst, ◌∙◌}
 use mathlib.Core.Logic.{inl, inr}
 use mathlib.Core.List.{List, [], ◌∷◌, append_assoc, append-nil}
-use Prim.Native.Nat.{ℕ, zero, suc, ◌+◌, ◌<◌, ◌≤◌}
-use native.Mathlib.Omega.{arith}
-use lib.ListN.{length, get_or, drop}
-use lib.Seq.{drop-length}
+use Prim.Native.Nat.{ℕ, suc, ◌+◌, ◌≤◌}
 use Rattle.definition.specs.Table.{Row, first_of, u64_max}
 use Rattle.definition.specs.Records.{Identity, LogEntry, entry}
 use Rattle.definition.specs.Log as D
@@ -16,12 +13,12 @@ use Rattle.definition.specs.Batch as M
 use Rattle.ids.specs.declared.RaftReplicaIdentity.{RaftReplicaIdentity}
 use Rattle.codec.specs.Records.{log_entry_of}
 use Rattle.view.specs.Meaning.{view_of, Means}
-use Rattle.batches.specs.declared.BatchEntries.{BatchEntries}
+use Rattle.batches.specs.declared.BatchEntry.{BatchEntry}
 use Rattle.preview.specs.declared.Preview.{Preview}
-use Rattle.batches.specs.Meaning.{log_entry_at, entry_at, entries_of, record_at}
-use Rattle.preview.specs.Preview.{Ran, entry_ran, onward, extend_from, Sits}
+use Rattle.batches.specs.Meaning.{entry_of, entries_of, record_of}
+use Rattle.preview.specs.Preview.{Ran, entry_ran, onward, extend_over, Sits}
 use Rattle.preview.specs.Extends.{Next, records_of, Extends}
-use Rattle.batches.proofs.Entries.{record_means, entries_count, entries_from_lem}
+use Rattle.batches.proofs.Entries.{Small}
 use Rattle.preview.proofs.Supplied.{entry_next, entry_refuses}
 
 -- Refused by the first row, else what follows.
@@ -63,57 +60,38 @@ module _ (i : Identity) (batch : M.Batch) (was : D.Log ℕ) where
           records = a.records ∙ append_assoc v.records ((i, entry 1 e.log_entry) ∷ []) (records_of i l);
         })
 
-  -- The entries of a batch that are left, from place k on; its indices are machine numbers.
-  module _ (d : RaftReplicaIdentity) (es : BatchEntries) (lent : List ℕ) (small : (k : ℕ) → get_or es.index k 0 ≤ u64_max) where
-    abbrev left : ℕ → List M.BatchEntry
-    left k = drop k (entries_of es lent)
-
-    abbrev Rest : ℕ → ℕ → Type 0
-    Rest n k =
-        (p : Preview) (cs : List ℕ) (v : M.Preview) → Means p.head p.entries cs v.log → v.lsn ≡ p.lsn
-        → Extends (extend_from n k d es lent p cs) i batch was (left k) v (M.extended i batch was (left k) v)
-
-    module _ (k : ℕ) (p : Preview) (cs : List ℕ) (v : M.Preview) (m : Means p.head p.entries cs v.log) (at : v.lsn ≡ p.lsn) where
+  -- The entries of a batch; their indices are machine numbers.
+  module _ (d : RaftReplicaIdentity) (lent : List ℕ) where
+    -- One entry, and what the rest of the batch does on the preview that it leaves.
+    module _ (e : BatchEntry) (small : e.index ≤ u64_max) (p : Preview) (cs : List ℕ) (v : M.Preview) (m : Means p.head p.entries cs v.log) (at : v.lsn ≡ p.lsn) where
       abbrev x : Ran
-      x = entry_ran p (record_at es k d) cs lent
+      x = entry_ran p (record_of d e) cs lent
 
       sits : Sits p cs
       sits = record { fits = m.fits; places = m.places; bytes = m.bytes }
 
-      rows : first_of (M.batch_entry_rows i batch was (log_entry_at es lent k) v) ≡ x.refused
-      rows =
-          ap (λ (e : LogEntry). first_of (M.batch_entry_rows i batch was e v)) (sym (record_means es lent k d))
-          ∙ entry_refuses p cs sits (record_at es k d) lent i batch was v (sym m.view) at
+      rows : first_of (M.batch_entry_rows i batch was (log_entry_of (record_of d e) lent) v) ≡ x.refused
+      rows = entry_refuses p cs sits (record_of d e) lent i batch was v (sym m.view) at
 
-      same_log_lem : D.with_entry (log_entry_of (record_at es k d) lent) (p.lsn + 1) (view_of p.head p.entries cs) ≡ D.with_entry (log_entry_at es lent k) (v.lsn + 1) v.log
+      same_log_lem : D.with_entry (log_entry_of (record_of d e) lent) (p.lsn + 1) (view_of p.head p.entries cs) ≡ D.with_entry (log_entry_of (record_of d e) lent) (v.lsn + 1) v.log
       same_log_lem =
-          ap (λ (e : LogEntry). D.with_entry e (p.lsn + 1) (view_of p.head p.entries cs)) (record_means es lent k d)
-          ∙ ap (λ (n : ℕ). D.with_entry (log_entry_at es lent k) (n + 1) (view_of p.head p.entries cs)) (sym at)
-          ∙ ap (λ (g : D.Log ℕ). D.with_entry (log_entry_at es lent k) (v.lsn + 1) g) m.view
+          ap (λ (n : ℕ). D.with_entry (log_entry_of (record_of d e) lent) (n + 1) (view_of p.head p.entries cs)) (sym at)
+          ∙ ap (λ (g : D.Log ℕ). D.with_entry (log_entry_of (record_of d e) lent) (v.lsn + 1) g) m.view
 
-      turn : (n : ℕ) → Rest n (suc k) → (o : Option ℕ) → x.refused ≡ o
-          → Extends (onward o x (extend_from n (suc k) d es lent x.preview x.bytes)) i batch was (entry_at es lent k ∷ left (suc k)) v (M.extended i batch was (entry_at es lent k ∷ left (suc k)) v)
-      turn n go (Some c) w = inl (record { number = c; refused = w; says = extended_refused (entry_at es lent k) (left (suc k)) v c (rows ∙ w) })
-      turn n go None w =
-          let y : Next p cs (log_entry_of (record_at es k d) lent) x = entry_next p cs sits (record_at es k d) lent (small k) w in
-          longer (entry_at es lent k) (left (suc k)) v (extend_from n (suc k) d es lent x.preview x.bytes) (rows ∙ w)
-          (go x.preview x.bytes (M.preview_entry i (log_entry_at es lent k) v)
+      turn : (es : List BatchEntry) (l : List M.BatchEntry)
+          → (next : (p : Preview) (cs : List ℕ) (v : M.Preview) → Means p.head p.entries cs v.log → v.lsn ≡ p.lsn → Extends (extend_over d es lent p cs) i batch was l v (M.extended i batch was l v))
+          → (o : Option ℕ) → x.refused ≡ o
+          → Extends (onward o x (extend_over d es lent x.preview x.bytes)) i batch was (entry_of lent e ∷ l) v (M.extended i batch was (entry_of lent e ∷ l) v)
+      turn es l next (Some c) w = inl (record { number = c; refused = w; says = extended_refused (entry_of lent e) l v c (rows ∙ w) })
+      turn es l next None w =
+          let y : Next p cs (log_entry_of (record_of d e) lent) x = entry_next p cs sits (record_of d e) lent small w in
+          longer (entry_of lent e) l v (extend_over d es lent x.preview x.bytes) (rows ∙ w)
+          (next x.preview x.bytes (M.preview_entry i (log_entry_of (record_of d e) lent) v)
           (subst (λ (g : D.Log ℕ). Means x.preview.head x.preview.entries x.bytes g) same_log_lem y.means)
           (ap (λ (n : ℕ). n + 1) at ∙ sym y.lsn))
 
-    pub extends : (n k : ℕ) → k + n ≡ es.count → (p : Preview) (cs : List ℕ) (v : M.Preview) → Means p.head p.entries cs v.log → v.lsn ≡ p.lsn
-        → Extends (extend_from n k d es lent p cs) i batch was (drop k (entries_of es lent)) v (M.extended i batch was (drop k (entries_of es lent)) v)
-    unfolding extend_from
-    extends zero k c p cs v m at =
-        let c' : k ≡ length (entries_of es lent) = omega (arith, entries_count es lent) in
-        let z : left k ≡ [] = ap (λ (x : ℕ). drop x (entries_of es lent)) c' ∙ drop-length (entries_of es lent) in
-        rw z (inr (record { next = v; refused = refl; says = extended_none v; means = m; lsn = at; records = sym (append-nil v.records) }))
-    extends (suc n) k c p cs v m at =
-        let b : k < es.count = omega arith in
-        let c' : suc k + n ≡ es.count = omega arith in
-        rw (entries_from_lem es lent k b) (turn k p cs v m at n (extends n (suc k) c') (x k p cs v m at).refused refl)
-
-    -- The whole batch.
-    pub all_extend : (p : Preview) (cs : List ℕ) (v : M.Preview) → Means p.head p.entries cs v.log → v.lsn ≡ p.lsn
-        → Extends (extend_from es.count 0 d es lent p cs) i batch was (entries_of es lent) v (M.extended i batch was (entries_of es lent) v)
-    all_extend p cs v m at = extends es.count 0 (omega arith) p cs v m at
+    pub extends : (es : List BatchEntry) → Small es → (p : Preview) (cs : List ℕ) (v : M.Preview) → Means p.head p.entries cs v.log → v.lsn ≡ p.lsn
+        → Extends (extend_over d es lent p cs) i batch was (entries_of es lent) v (M.extended i batch was (entries_of es lent) v)
+    unfolding extend_over entries_of
+    extends [] small p cs v m at = inr (record { next = v; refused = refl; says = extended_none v; means = m; lsn = at; records = sym (append-nil v.records) })
+    extends (e ∷ es) small p cs v m at = turn e (small 0) p cs v m at es (entries_of es lent) (extends es (λ k. small (suc k))) (entry_ran p (record_of d e) cs lent).refused refl

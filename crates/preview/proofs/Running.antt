@@ -3,12 +3,14 @@
 use Rattle.std.specs.Prelude.{Option, None, Some, Result, Ok, Err}
 use mathlib.Core.Path.{◌≡◌, refl, sym, ap, ◌∙◌}
 use mathlib.Core.Bool.{Bool, true, false, ◌&&◌}
-use mathlib.Core.List.{List}
+use mathlib.Core.List.{List, []}
 use Prim.Native.Nat.{ℕ, suc, ◌+◌, ◌-◌, ◌<◌, ◌≤◌}
 use native.Mathlib.Omega.{arith}
 use native.Mathlib.Numerals.{add-one}
 use borrow.Author.Tests.{eqb-true, eq-eqb, le-leb, lt-ltb}
-use lib.ListN.{length}
+use lib.ListN.{length, get_or, drop}
+use lib.Seq.{drop-cons}
+use Rattle.std.proofs.lemmas.List.{drop_all}
 use Rattle.definition.specs.Table.{◌=?◌, ◌≤?◌, first_of, u64_max}
 use Rattle.ids.specs.declared.RaftReplicaIdentity.{RaftReplicaIdentity}
 use Rattle.ids.specs.declared.Refusal.{Refusal}
@@ -19,12 +21,13 @@ use Rattle.view.specs.declared.Header.{Header}
 use Rattle.view.specs.Meaning.{base_of}
 use Rattle.view.specs.Readers.{place_of}
 use Rattle.view.proofs.Readers.{Held, held_at_lem}
-use Rattle.batches.specs.declared.BatchEntries.{BatchEntries}
+use Rattle.batches.specs.declared.BatchEntry.{BatchEntry}
 use Rattle.preview.specs.declared.Extended.{Extended}
 use Rattle.preview.specs.declared.Preview.{Preview}
 use Rattle.batches.specs.Checks.{entry_form_rows}
-use Rattle.batches.specs.Meaning.{record_at}
-use Rattle.preview.specs.Preview.{holds_at, within, spot_in, spot_of, Ran, ran_of, ran, taken_at, formed_by, entry_ran, onward, extend_from, Sits, Takes}
+use Rattle.batches.specs.Meaning.{record_of}
+use Rattle.batches.proofs.Entries.{blank}
+use Rattle.preview.specs.Preview.{holds_at, within, spot_in, spot_of, Ran, ran_of, ran, taken_at, formed_by, entry_ran, onward, extend_over, Sits, Takes}
 use Rattle.preview.specs.Extends.{Next}
 use Rattle.preview.proofs.Supplied.{entry_next}
 
@@ -44,17 +47,17 @@ module _ (h : Header) (x q : ℕ) where
       a ∙ sym at ∙ sym (ap (λ (y : Option ℕ). spot_in y h.len) p)
 
   -- .. and where all of them do not, it is the one after the last.
-  pub spot_missing : h.len ≤ q → q ≤ h.len → ((k : ℕ) → k < q → holds_at h k x ≡ false) → within q ≡ spot_of h x
-  spot_missing m l all = go (place_of h x) refl
+  pub spot_missing : (k : ℕ) → q ≡ h.len → h.len ≤ k → ((j : ℕ) → j < k → holds_at h j x ≡ false) → within q ≡ spot_of h x
+  spot_missing k z m all = go (place_of h x) refl
     where
       go : (p : Option ℕ) → place_of h x ≡ p → within q ≡ spot_in p h.len
-      go None e = let z : q ≡ h.len = omega arith in ap within z
-      go (Some k) e =
-          let y : Held h x k = held_at_lem h x k e in
-          let b : base_of h + k ≡ x = y.index in
-          let t : k < q = omega (arith, y.below) in
-          let u : holds_at h k x ≡ true = rw (le-leb (base_of h) x (omega arith), eq-eqb (x - base_of h) k (omega arith)) in
-          absurd (let w : true ≡ false = sym u ∙ all k t in let z : ◌≡◌ {A = ℕ} 0 1 = cc in omega arith)
+      go None e = ap within z
+      go (Some j) e =
+          let y : Held h x j = held_at_lem h x j e in
+          let b : base_of h + j ≡ x = y.index in
+          let t : j < k = omega (arith, y.below) in
+          let u : holds_at h j x ≡ true = rw (le-leb (base_of h) x (omega arith), eq-eqb (x - base_of h) j (omega arith)) in
+          absurd (let w : true ≡ false = sym u ∙ all j t in let z : ◌≡◌ {A = ℕ} 0 1 = cc in omega arith)
 
 -- A turn, by what an entry leaves.
 turn_ends : (x y : Ran) (rest : Ran → Ran) (k : ℕ) → x ≡ y → y.refused ≡ Some k → onward x.refused x (rest x) ≡ y
@@ -63,55 +66,58 @@ turn_ends x y rest k e w = ap (λ (z : Ran). onward z.refused z (rest z)) e ∙ 
 turn_goes : (x y : Ran) (rest : Ran → Ran) → x ≡ y → y.refused ≡ None → onward x.refused x (rest x) ≡ rest y
 turn_goes x y rest e w = ap (λ (z : Ran). onward z.refused z (rest z)) e ∙ ap (λ (o : Option ℕ). onward o y (rest y)) w
 
-module _ (n : ℕ) (d : RaftReplicaIdentity) (es : BatchEntries) (lent : List ℕ) where
+module _ (d : RaftReplicaIdentity) (es : List BatchEntry) (lent : List ℕ) where
+  abbrev left : ℕ → Preview → List ℕ → Ran
+  left i p cs = extend_over d (drop i es) lent p cs
+
   abbrev rest : ℕ → Ran → Ran
-  rest i x = extend_from (n - (i + 1)) (i + 1) d es lent x.preview x.bytes
+  rest i x = left (i + 1) x.preview x.bytes
+
+  -- the record of entry i
+  abbrev own : ℕ → RaftLogEntryRecord
+  own i = record_of d (get_or es i blank)
 
   abbrev one : ℕ → Preview → List ℕ → Ran
-  one i p cs = entry_ran p (record_at es i d) cs lent
+  one i p cs = entry_ran p (own i) cs lent
 
-  extend_step : (i : ℕ) (p : Preview) (cs : List ℕ) → i < n → extend_from (n - i) i d es lent p cs ≡ onward (one i p cs).refused (one i p cs) (rest i (one i p cs))
-  unfolding extend_from
-  extend_step i p cs h =
-      let e : n - i ≡ suc (n - (i + 1)) = (omega arith) ∙ add-one (n - (i + 1)) in
-      rw (e, ← add-one i)
+  extend_step : (i : ℕ) (p : Preview) (cs : List ℕ) → i < length es → left i p cs ≡ onward (one i p cs).refused (one i p cs) (rest i (one i p cs))
+  unfolding extend_over
+  extend_step i p cs h = rw (drop-cons es i blank h, add-one i)
 
-  extend_none : (i : ℕ) (p : Preview) (cs : List ℕ) → n ≤ i → extend_from (n - i) i d es lent p cs ≡ ran None p cs
-  unfolding extend_from
-  extend_none i p cs h = let e : n - i ≡ 0 = omega arith in rw e
+  extend_none : (i : ℕ) (p : Preview) (cs : List ℕ) → length es ≤ i → left i p cs ≡ ran None p cs
+  unfolding extend_over
+  extend_none i p cs h = rw (drop_all i es h)
 
   -- Where the loop's test is reached: i entries were taken.
   pub record Running (p₀ : Preview) (cs₀ : List ℕ) (p : Preview) (cs : List ℕ) (o : Result (Unit {0}) Refusal) (i : ℕ) : Type 0 where
-    pub few : n ≤ 32
-    pub among : i ≤ n
     pub ready : o ≡ (Ok tt)
     pub sits : Sits p cs
-    pub whole : extend_from n 0 d es lent p₀ cs₀ ≡ extend_from (n - i) i d es lent p cs
+    pub whole : extend_over d es lent p₀ cs₀ ≡ left i p cs
     pub long : length cs ≡ length cs₀
 
-  pub run_start : (p : Preview) (cs : List ℕ) → Sits p cs → n ≤ 32 → Running p cs p cs (Ok tt) 0
-  run_start p cs s few =
-      let e : n ≡ n - 0 = omega arith in
-      record { few = few; among = omega arith; ready = refl; sits = s; whole = ap (λ (m : ℕ). extend_from m 0 d es lent p cs) e; long = refl }
+  pub run_start : (p : Preview) (cs : List ℕ) → Sits p cs → Running p cs p cs (Ok tt) 0
+  run_start p cs s = record { ready = refl; sits = s; whole = refl; long = refl }
 
   module _ (p₀ : Preview) (cs₀ : List ℕ) (p : Preview) (cs : List ℕ) (o : Result (Unit {0}) Refusal) (i : ℕ) (k : Running p₀ cs₀ p cs o i) where
     -- all were taken
-    pub run_end : n ≤ i → ran_of (record { answer = o; preview = p }) cs ≡ extend_from n 0 d es lent p₀ cs₀
+    pub run_end : length es ≤ i → ran_of (record { answer = o; preview = p }) cs ≡ extend_over d es lent p₀ cs₀
     run_end l = ap (λ (a : Result (Unit {0}) Refusal). ran_of (record { answer = a; preview = p }) cs) k.ready ∙ sym (k.whole ∙ extend_none i p cs l)
 
-    module _ (l : i < n) (r : RaftLogEntryRecord) (er : r ≡ record_at es i d) (a : Result (Unit {0}) Refusal) (ea : checked_of a ≡ first_of (entry_form_rows p.lsn (log_entry_of r lent))) where
+    module _ (l : i < length es) (r : RaftLogEntryRecord) (er : r ≡ own i) (a : Result (Unit {0}) Refusal) (ea : checked_of a ≡ first_of (entry_form_rows p.lsn (log_entry_of r lent))) where
+      step : extend_over d es lent p₀ cs₀ ≡ onward (one i p cs).refused (one i p cs) (rest i (one i p cs))
+      step = k.whole ∙ extend_step i p cs l
+
       -- refused for its form
       formed_out : (c : ℕ) → first_of (entry_form_rows p.lsn (log_entry_of r lent)) ≡ Some c → entry_ran p r cs lent ≡ ran (Some c) p cs
       unfolding entry_ran
       formed_out c w = ap (λ (z : Option ℕ). formed_by z p cs (taken_at p (spot_of p.head r.index) r cs lent)) w
 
-      pub run_formed : (why : Refusal) → a ≡ Err why → ran_of (record { answer = Err why; preview = p }) cs ≡ extend_from n 0 d es lent p₀ cs₀
-      run_formed why e =
+      pub run_formed : (why : Refusal) → a ≡ Err why → ran_of (record { answer = Err why; preview = p }) cs ≡ extend_over d es lent p₀ cs₀
+      run_formed why w =
           sym
-          (k.whole
-          ∙ extend_step i p cs l
+          (step
           ∙ turn_ends (one i p cs) (ran (checked_of (Err why)) p cs) (rest i) _
-          (ap (λ (z : RaftLogEntryRecord). entry_ran p z cs lent) (sym er) ∙ formed_out _ (sym ea ∙ ap checked_of e)) refl)
+          (ap (λ (z : RaftLogEntryRecord). entry_ran p z cs lent) (sym er) ∙ formed_out _ (sym ea ∙ ap checked_of w)) refl)
 
       -- taken at the place of its index
       module _ (ok : a ≡ (Ok tt)) (q : ℕ) (place : q ≡ spot_of p.head r.index) where
@@ -131,21 +137,19 @@ module _ (n : ℕ) (d : RaftReplicaIdentity) (es : BatchEntries) (lent : List �
           one_is : one i p cs ≡ ran_of t cs'
           one_is = ap (λ (z : RaftLogEntryRecord). entry_ran p z cs lent) (sym er) ∙ formed_in ∙ sym et
 
-          pub run_refused : (why : Refusal) → t.answer ≡ Err why → ran_of (record { answer = Err why; preview = t.preview }) cs' ≡ extend_from n 0 d es lent p₀ cs₀
-          run_refused why e =
-              ap (λ (z : Result (Unit {0}) Refusal). ran_of (record { answer = z; preview = t.preview }) cs') (sym e)
-              ∙ sym (k.whole ∙ extend_step i p cs l ∙ turn_ends (one i p cs) (ran_of t cs') (rest i) _ one_is (ap checked_of e))
+          pub run_refused : (why : Refusal) → t.answer ≡ Err why → ran_of (record { answer = Err why; preview = t.preview }) cs' ≡ extend_over d es lent p₀ cs₀
+          run_refused why w =
+              ap (λ (z : Result (Unit {0}) Refusal). ran_of (record { answer = z; preview = t.preview }) cs') (sym w)
+              ∙ sym (step ∙ turn_ends (one i p cs) (ran_of t cs') (rest i) _ one_is (ap checked_of w))
 
           pub run_next : r.index ≤ u64_max → t.answer ≡ (Ok tt) → Running p₀ cs₀ t.preview cs' o (i + 1)
-          run_next small e =
+          run_next small w =
               let y : entry_ran p r cs lent ≡ ran_of t cs' = formed_in ∙ sym et in
-              let m : Next p cs (log_entry_of r lent) (entry_ran p r cs lent) = entry_next p cs k.sits r lent small (ap (λ (z : Ran). z.refused) y ∙ ap checked_of e) in
+              let m : Next p cs (log_entry_of r lent) (entry_ran p r cs lent) = entry_next p cs k.sits r lent small (ap (λ (z : Ran). z.refused) y ∙ ap checked_of w) in
               let m' : Next p cs (log_entry_of r lent) (ran_of t cs') = rw y at m in
               record {
-                few = k.few;
-                among = omega arith;
                 ready = k.ready;
                 sits = record { fits = m'.means.fits; places = m'.means.places; bytes = m'.means.bytes };
-                whole = k.whole ∙ extend_step i p cs l ∙ turn_goes (one i p cs) (ran_of t cs') (rest i) one_is (ap checked_of e);
+                whole = step ∙ turn_goes (one i p cs) (ran_of t cs') (rest i) one_is (ap checked_of w);
                 long = omega (arith, m'.means.bytes, k.sits.bytes, k.long);
               }

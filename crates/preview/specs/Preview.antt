@@ -1,6 +1,6 @@
 -- The model of the entries of a batch on a preview: what one does, and what the rest of them do.
 -- Assumes nothing.
-use Rattle.std.specs.Prelude.{ℕ, zero, suc, ◌+◌, ◌-◌, ◌≡◌, List, Bool, ◌&&◌, length, get_or, set, if◌then◌else◌, Option, None, Some}
+use Rattle.std.specs.Prelude.{ℕ, ◌+◌, ◌-◌, ◌≡◌, List, [], ◌∷◌, Bool, ◌&&◌, length, get_or, set, if◌then◌else◌, Option, None, Some}
 use Rattle.definition.specs.Table.{◌=?◌, ◌<?◌, ◌≤?◌, first_of}
 use Rattle.definition.specs.Log as D
 use Rattle.ids.specs.declared.Lsn.{Lsn}
@@ -14,11 +14,11 @@ use Rattle.view.specs.Decisions.{replay_answer}
 use Rattle.view.specs.Meaning.{no_entry, base_of, Fits}
 use Rattle.view.specs.Readers.{place_of}
 use Rattle.replay.specs.Plan.{look_of, existing_in, prior_in, Plan, entry_plan}
-use Rattle.batches.specs.declared.BatchEntries.{BatchEntries}
+use Rattle.batches.specs.declared.BatchEntry.{BatchEntry}
 use Rattle.preview.specs.declared.Preview.{Preview}
 use Rattle.preview.specs.declared.Extended.{Extended}
 use Rattle.batches.specs.Checks.{entry_form_rows}
-use Rattle.batches.specs.Meaning.{record_at}
+use Rattle.batches.specs.Meaning.{record_of}
 
 -- An entry (25 to 32).
 abbrev pub supply_plan : Header → RecoveredRaftLogEntry → RecoveredRaftLogEntry → RaftLogEntryRecord → Lsn → List ℕ → List ℕ → Plan
@@ -90,12 +90,12 @@ abbrev pub onward : Option ℕ → Ran → Ran → Ran
 onward (Some n) x rest = x
 onward None x rest = rest
 
--- n entries of the batch, from place i on.
-unfoldable pub extend_from : ℕ → ℕ → RaftReplicaIdentity → BatchEntries → List ℕ → Preview → List ℕ → Ran
-extend_from zero i d es lent p cs = ran None p cs
-extend_from (suc n) i d es lent p cs =
-    onward (entry_ran p (record_at es i d) cs lent).refused (entry_ran p (record_at es i d) cs lent)
-    (extend_from n (suc i) d es lent (entry_ran p (record_at es i d) cs lent).preview (entry_ran p (record_at es i d) cs lent).bytes)
+-- The entries of the batch.
+unfoldable pub extend_over : RaftReplicaIdentity → List BatchEntry → List ℕ → Preview → List ℕ → Ran
+extend_over d [] lent p cs = ran None p cs
+extend_over d (e ∷ es) lent p cs =
+    onward (entry_ran p (record_of d e) cs lent).refused (entry_ran p (record_of d e) cs lent)
+    (extend_over d es lent (entry_ran p (record_of d e) cs lent).preview (entry_ran p (record_of d e) cs lent).bytes)
 
 -- A preview and its block fit.
 pub record Sits (p : Preview) (cs : List ℕ) : Type 0 where

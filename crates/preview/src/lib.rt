@@ -3,9 +3,9 @@
 
 ghost use Rattle.std.specs.Prelude.{◌≡◌, ◌<◌, ◌≤◌};
 ghost use Rattle.replay.specs.Plan.{planned, Replayable};
-ghost use Rattle.preview.specs.Preview.{supply_plan, holds_at, within, ran_of, taken_at, extend_from, Sits, Takes};
+ghost use Rattle.preview.specs.Preview.{supply_plan, holds_at, within, ran_of, taken_at, extend_over, Sits, Takes};
 
-use batches::{BatchEntries, batch, entry};
+use batches::{BatchEntry, entry};
 use codec::RaftLogEntryRecord;
 use ids::{Lsn, RaftReplicaIdentity, Refusal};
 use replay::Change;
@@ -97,27 +97,27 @@ fn take_entry(
 pub fn extend(
     preview: Preview,
     identity: RaftReplicaIdentity,
-    entries: BatchEntries,
+    entries: &[BatchEntry],
     block: &mut [u8],
     lent: &[u8],
 ) -> Extended
-    requires { (Sits preview block.old) × (entries.count ≤ 32) }
-    ensures { ran_of result block.new ≡ extend_from entries.count 0 identity entries lent.now preview block.old }
+    requires { Sits preview block.old }
+    ensures { ran_of result block.new ≡ extend_over identity entries.now lent.now preview block.old }
 {
     let mut t = preview;
     let mut answer = Ok(());
-    'batch: for i in 0..entries.count {
-        let r = batch::record_at(entries, i, identity);
+    'batch: for entry in entries {
+        let r = entry.record(identity);
         if let Err(why) = entry::check_entry(t.lsn, r, lent) {
             answer = Err(why);
             break 'batch;
         }
-        let mut q: usize = 0;
-        while q < t.head.len {
-            if holds(t.head, q, r.index) {
+        let mut q = t.head.len;
+        for k in 0..t.head.len {
+            if holds(t.head, k, r.index) {
+                q = k;
                 break;
             }
-            q += 1;
         }
         let taken = take_entry(t, place_within(q), r, block, lent);
         t = taken.preview;

@@ -1,71 +1,63 @@
 -- `extend` meets its contract.
 use native.Mathlib.Omega.{arith}
-use mathlib.Core.Path.{◌≡◌, sym, ◌∙◌}
+use mathlib.Core.Path.{◌≡◌, sym, ap, ◌∙◌}
 use borrow.Author.Rules.{rules}
 use borrow.Author.Count.{below_more}
-use Rattle.preview.specs.Preview.{spot_of}
+use Rattle.preview.specs.Preview.{within, spot_of}
 use Rattle.preview.proofs.Running.{spot_found, spot_missing, run_start, run_end, run_formed, run_takes, run_refused, run_next}
 use Rattle.preview.proofs.extend.Goals as goal
-use Rattle.preview.proofs.extend.Goals.{else-loop-q-test, then-loop-q-test+then-holds}
+use Rattle.preview.proofs.extend.Goals.{else-loop-k-test, then-loop-k-test+then-holds}
 
-pub batch-init : goal.batch-init
-batch-init c = run_start c.args.entries.count c.args.identity c.args.entries c.args.lent.now c.args.preview c.args.block.now c.requires.0 c.requires.1
-
-pub loop-q-init : goal.loop-q-init
-loop-q-init c = (search rules, λ k l. absurd (omega arith))
-
-pub loop-q-preserved : goal.loop-q-preserved
-loop-q-preserved c = (search rules, below_more _ _ c.loop-q.invariant.1 (sym c.holds.ensures ∙ c.if-holds.false))
+pub loop-k-preserved : goal.loop-k-preserved
+loop-k-preserved c = (search rules, below_more _ _ c.loop-k.invariant.1 (sym c.holds.ensures ∙ c.if-holds.false))
 
 pub take_entry-taken-requires : goal.take_entry-taken-requires
 take_entry-taken-requires c =
     let h = c.batch.t.head in
-    let x = c.record_at-r.result.index in
+    let x = c.record-r.result.index in
     let spot : c.place_within.result ≡ spot_of h x =
     c.place_within.ensures
-    ∙ (elim c.loop-q-test.branch [
-      | else-loop-q-test w ↦ spot_missing h x c.loop-q.q w.loop-q-test.false c.loop-q.invariant.0 c.loop-q.invariant.1
-      | then-loop-q-test+then-holds w ↦ spot_found h x c.loop-q.q c.batch.invariant.sits.fits.short w.loop-q-test.true (sym w.holds.ensures ∙ w.if-holds.true)
+    ∙ (elim c.loop-k-test.branch [
+      | else-loop-k-test w ↦ ap within w.q-is ∙ spot_missing h x c.loop-k.q c.loop-k.k c.loop-k.invariant.0 w.loop-k-test.false c.loop-k.invariant.1
+      | then-loop-k-test+then-holds w ↦ ap within w.q-is ∙ spot_found h x c.loop-k.k c.batch.invariant.sits.fits.short w.loop-k-test.true (sym w.holds.ensures ∙ w.if-holds.true)
     ])
     in
-    run_takes c.args.entries.count c.args.identity c.args.entries c.args.lent.now c.args.preview c.args.block.now c.batch.t c.batch.block c.batch.answer-1 c.batch.i c.batch.invariant
-    c.batch-test.true c.record_at-r.result c.record_at-r.ensures c.check_entry.result c.check_entry.ensures c.in_default.is c.place_within.result spot
+    run_takes c.args.identity c.args.entries.now c.args.lent.now c.args.preview c.args.block.now c.batch.t c.batch.block c.batch.answer-1 c.batch.entry-index c.batch.invariant
+    c.batch-test.true c.record-r.result c.record-r.ensures c.check_entry.result c.check_entry.ensures c.in_default.is c.place_within.result spot
 
 pub batch-preserved : goal.batch-preserved
 batch-preserved c =
     let h = c.batch.t.head in
-    let x = c.record_at-r.result.index in
+    let x = c.record-r.result.index in
     let spot : c.place_within.result ≡ spot_of h x =
     c.place_within.ensures
-    ∙ (elim c.loop-q-test.branch [
-      | else-loop-q-test w ↦ spot_missing h x c.loop-q.q w.loop-q-test.false c.loop-q.invariant.0 c.loop-q.invariant.1
-      | then-loop-q-test+then-holds w ↦ spot_found h x c.loop-q.q c.batch.invariant.sits.fits.short w.loop-q-test.true (sym w.holds.ensures ∙ w.if-holds.true)
+    ∙ (elim c.loop-k-test.branch [
+      | else-loop-k-test w ↦ ap within w.q-is ∙ spot_missing h x c.loop-k.q c.loop-k.k c.loop-k.invariant.0 w.loop-k-test.false c.loop-k.invariant.1
+      | then-loop-k-test+then-holds w ↦ ap within w.q-is ∙ spot_found h x c.loop-k.k c.batch.invariant.sits.fits.short w.loop-k-test.true (sym w.holds.ensures ∙ w.if-holds.true)
     ])
     in
-    run_next c.args.entries.count c.args.identity c.args.entries c.args.lent.now c.args.preview c.args.block.now c.batch.t c.batch.block c.batch.answer-1 c.batch.i c.batch.invariant
-    c.batch-test.true c.record_at-r.result c.record_at-r.ensures c.check_entry.result c.check_entry.ensures c.in_default.is c.place_within.result spot
-    c.take_entry-taken.result _ c.take_entry-taken.ensures (omega (arith, c.record_at-r.type_inv)) c.in_default-answer.is
+    run_next c.args.identity c.args.entries.now c.args.lent.now c.args.preview c.args.block.now c.batch.t c.batch.block c.batch.answer-1 c.batch.entry-index c.batch.invariant
+    c.batch-test.true c.record-r.result c.record-r.ensures c.check_entry.result c.check_entry.ensures c.in_default.is c.place_within.result spot
+    c.take_entry-taken.result _ c.take_entry-taken.ensures (omega (arith, c.record-r.type_inv)) c.in_default-answer.is
 
 pub returns-after-batch : goal.returns-after-batch
-returns-after-batch c =
-    run_end c.args.entries.count c.args.identity c.args.entries c.args.lent.now c.args.preview c.args.block.now c.batch.t c.batch.block c.batch.answer-1 c.batch.i c.batch.invariant c.batch-test.false
+returns-after-batch c = run_end c.args.identity c.args.entries.now c.args.lent.now c.args.preview c.args.block.now c.batch.t c.batch.block c.batch.answer-1 c.batch.entry-index c.batch.invariant c.batch-test.false
 
 pub returns-in-Err : goal.returns-in-Err
-returns-in-Err c =
-    run_formed c.args.entries.count c.args.identity c.args.entries c.args.lent.now c.args.preview c.args.block.now c.batch.t c.batch.block c.batch.answer-1 c.batch.i c.batch.invariant
-    c.batch-test.true c.record_at-r.result c.record_at-r.ensures c.check_entry.result c.check_entry.ensures _ c.in-Err.is
+returns-in-Err c = run_formed c.args.identity c.args.entries.now c.args.lent.now c.args.preview c.args.block.now c.batch.t c.batch.block c.batch.answer-1 c.batch.entry-index c.batch.invariant
+    c.batch-test.true c.record-r.result c.record-r.ensures c.check_entry.result c.check_entry.ensures _ c.in-Err.is
 
 pub returns-in-Err-answer : goal.returns-in-Err-answer
 returns-in-Err-answer c =
     let h = c.batch.t.head in
-    let x = c.record_at-r.result.index in
+    let x = c.record-r.result.index in
     let spot : c.place_within.result ≡ spot_of h x =
     c.place_within.ensures
-    ∙ (elim c.loop-q-test.branch [
-      | else-loop-q-test w ↦ spot_missing h x c.loop-q.q w.loop-q-test.false c.loop-q.invariant.0 c.loop-q.invariant.1
-      | then-loop-q-test+then-holds w ↦ spot_found h x c.loop-q.q c.batch.invariant.sits.fits.short w.loop-q-test.true (sym w.holds.ensures ∙ w.if-holds.true)
+    ∙ (elim c.loop-k-test.branch [
+      | else-loop-k-test w ↦ ap within w.q-is ∙ spot_missing h x c.loop-k.q c.loop-k.k c.loop-k.invariant.0 w.loop-k-test.false c.loop-k.invariant.1
+      | then-loop-k-test+then-holds w ↦ ap within w.q-is ∙ spot_found h x c.loop-k.k c.batch.invariant.sits.fits.short w.loop-k-test.true (sym w.holds.ensures ∙ w.if-holds.true)
     ])
     in
-    run_refused c.args.entries.count c.args.identity c.args.entries c.args.lent.now c.args.preview c.args.block.now c.batch.t c.batch.block c.batch.answer-1 c.batch.i c.batch.invariant
-    c.batch-test.true c.record_at-r.result c.record_at-r.ensures c.check_entry.result c.check_entry.ensures c.in_default.is c.place_within.result spot
+    run_refused c.args.identity c.args.entries.now c.args.lent.now c.args.preview c.args.block.now c.batch.t c.batch.block c.batch.answer-1 c.batch.entry-index c.batch.invariant
+    c.batch-test.true c.record-r.result c.record-r.ensures c.check_entry.result c.check_entry.ensures c.in_default.is c.place_within.result spot
     c.take_entry-taken.result _ c.take_entry-taken.ensures _ c.in-Err-answer.is
