@@ -1,21 +1,17 @@
--- A batch's entries: as many as there are records. Their indices are machine numbers.
+-- A batch's entries: as many as there are records.
 -- Assumes nothing.
 use mathlib.Core.Path.{◌≡◌}
 use mathlib.Core.List.{List}
-use Prim.Native.Nat.{ℕ, ◌≤◌}
-use lib.ListN.{length, get_or}
+use Prim.Native.Nat.{ℕ}
+use lib.ListN.{length}
 use Rattle.std.proofs.lemmas.List.{length-map}
 use Rattle.codec.specs.declared.DurableRaftEntryPayload.TheVariants as Y
-use Rattle.definition.specs.Table.{u64_max}
 use Rattle.batches.specs.declared.BatchEntry.{BatchEntry}
 use Rattle.batches.specs.Meaning.{entry_of, entries_of}
 
 -- What a read past the end of the entries gives.
 abbrev pub blank : BatchEntry
 blank = record { index = 0; term = 0; payload = Y.Normal 0 0 }
-
-abbrev pub Small : List BatchEntry → Type 0
-Small es = (k : ℕ) → (get_or es k blank).index ≤ u64_max
 
 pub entries_count : (es : List BatchEntry) (lent : List ℕ) → length (entries_of es lent) ≡ length es
 unfolding entries_of

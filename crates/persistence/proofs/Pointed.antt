@@ -29,7 +29,7 @@ use Rattle.preview.specs.declared.Extended.{Extended}
 use Rattle.preview.specs.declared.Preview.{Preview}
 use Rattle.batches.specs.Checks.{lsn_exhausted, pointer_form_rows, pointer_rows, hard_state_rows, term_rows}
 use Rattle.batches.specs.Meaning.{entries_of, batch_of}
-use Rattle.preview.specs.Preview.{Ran, ran_of, ran, formed_by, onward, extend_from, Sits}
+use Rattle.preview.specs.Preview.{Ran, ran_of, ran, formed_by, onward, extend_over, Sits}
 use Rattle.persistence.specs.Prepare.{held_at, moved_down, pointed_with, point_ran, hard_header, hardened_with, harden_ran, conclude_ran, point_in, harden_in, followed, lastly_ran, entries_ran, pointed_ran, prepare_ran}
 use Rattle.persistence.specs.Prepares.{Stands}
 use Rattle.batches.proofs.Entries.{entries_count}
@@ -139,7 +139,7 @@ unfolding lastly_ran
 lastly_is snapshot hard kept p cs = refl
 
 module _ (d : RaftReplicaIdentity) (b : RaftPersistenceBatch) (kept : Option HardState) (lent : List ℕ) (p : Preview) (cs : List ℕ) where
-  pub entries_is : followed (extend_from b.entries.count 0 d b.entries lent p cs) (lastly_ran b.snapshot b.hard_state kept) ≡ entries_ran d b kept lent p cs
+  pub entries_is : followed (extend_over d b.entries.now lent p cs) (lastly_ran b.snapshot b.hard_state kept) ≡ entries_ran d b kept lent p cs
   unfolding entries_ran
   entries_is = refl
 
@@ -150,14 +150,6 @@ module _ (d : RaftReplicaIdentity) (b : RaftPersistenceBatch) (kept : Option Har
 -- The batch as a whole.
 module _ (d : RaftReplicaIdentity) (b : RaftPersistenceBatch) (lent : List ℕ) (p : Preview) (cs : List ℕ) (a : Result (Unit {0}) Refusal)
     (ea : (lent : List ℕ) (was : D.Log ℕ) → checked_of a ≡ first_of (M.batch_rows (identity_of d) (batch_of b lent) was)) where
-  pub batch_few : a ≡ (Ok tt) → b.entries.count ≤ 32
-  unfolding M.batch_rows
-  batch_few e =
-      let w : first_of (M.batch_rows (identity_of d) (batch_of b lent) (view_of p.head p.entries cs)) ≡ None = sym (ea lent (view_of p.head p.entries cs)) ∙ ap checked_of e in
-      let c = clear (M.batch_rows (identity_of d) (batch_of b lent) (view_of p.head p.entries cs)) w in
-      let l : length (entries_of b.entries lent) ≤ 32 = ltb-false 32 (length (entries_of b.entries lent)) c.1.1.0 in
-      omega (arith, l, entries_count b.entries lent)
-
   pub prepare_out : (why : Refusal) → a ≡ Err why → ran_of (record { answer = Err why; preview = p }) cs ≡ prepare_ran d b lent p cs
   unfolding prepare_ran
   prepare_out why e =

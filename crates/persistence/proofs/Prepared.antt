@@ -32,12 +32,12 @@ use Rattle.batches.specs.declared.RaftPersistenceBatch.{RaftPersistenceBatch}
 use Rattle.preview.specs.declared.Preview.{Preview}
 use Rattle.batches.specs.Checks.{pointer_rows, hard_state_rows, term_rows}
 use Rattle.batches.specs.Meaning.{entries_of, batch_of}
-use Rattle.preview.specs.Preview.{Ran, ran, formed_by, onward, extend_from}
+use Rattle.preview.specs.Preview.{Ran, ran, formed_by, onward, extend_over}
 use Rattle.preview.specs.Extends.{records_of, Ends, Extends}
 use Rattle.persistence.specs.Prepare.{held_at, pointed_with, point_ran, hardened_with, harden_ran, conclude_ran, point_in, harden_in, followed, lastly_ran, entries_ran, pointed_ran, beginning, prepare_ran}
 use Rattle.persistence.specs.Prepares.{Stands, Steps, pointer_records, hard_state_records, batch_records, Prepares}
 use Rattle.batches.proofs.Rows.{pointer_rows_lem, hard_state_means, term_means}
-use Rattle.preview.proofs.Extending.{refused_by, passed_by, all_extend}
+use Rattle.preview.proofs.Extending.{refused_by, passed_by, extends}
 
 formed_is : (o : Option ℕ) (p : Preview) (cs : List ℕ) (q : Preview) (ds : List ℕ) → (formed_by o p cs (ran None q ds)).refused ≡ o
 formed_is None p cs q ds = refl
@@ -221,13 +221,13 @@ module _ (i : Identity) (b : RaftPersistenceBatch) (lent : List ℕ) (k : Header
     unfolding lastly_ran
     lastly = lastly_of b.hard_state
 
-  -- The entries before that; their indices are machine numbers.
-  module _ (d : RaftReplicaIdentity) (small : (n : ℕ) → get_or b.entries.index n 0 ≤ u64_max) (p : Preview) (cs : List ℕ) (v : M.Preview) (m : Means p.head p.entries cs v.log) (at : v.lsn ≡ p.lsn) where
+  -- The entries before that, on a log whose boundary has 64 bits.
+  module _ (d : RaftReplicaIdentity) (p : Preview) (cs : List ℕ) (v : M.Preview) (m : Means p.head p.entries cs v.log) (at : v.lsn ≡ p.lsn) (low : v.log.snapshot_index ≤ u64_max) where
     abbrev es : List M.BatchEntry
-    es = entries_of b.entries lent
+    es = entries_of b.entries.now lent
 
     abbrev came : Ran
-    came = extend_from b.entries.count 0 d b.entries lent p cs
+    came = extend_over d b.entries.now lent p cs
 
     abbrev rest : Preview → List ℕ → Ran
     rest = lastly_ran b.snapshot b.hard_state kept
@@ -245,11 +245,16 @@ module _ (i : Identity) (b : RaftPersistenceBatch) (lent : List ℕ) (k : Header
 
     pub entries_prepare : Prepares (entries_ran d b kept lent p cs) all (M.extended i asking before es v)
     unfolding entries_ran
-    entries_prepare = entries_go (all_extend i asking before d b.entries lent small p cs v m at)
+    entries_prepare = entries_go (extends i asking before d lent b.entries.now p cs v m at low)
+
+-- The boundary that is kept, and a batch's pointer's, have 64 bits.
+pub record Low (h : Header) (b : RaftPersistenceBatch) : Type 0 where
+  pub head : h.snapshot_index ≤ u64_max
+  pub pointer : (r : RaftSnapshotPointerRecord) → b.snapshot ≡ Some r → r.last_included_index ≤ u64_max
 
 -- The whole, on what is kept of the replica.
-module _ (d : RaftReplicaIdentity) (b : RaftPersistenceBatch) (lent : List ℕ) (small : (n : ℕ) → get_or b.entries.index n 0 ≤ u64_max)
-    (h : Header) (hs : List RecoveredRaftLogEntry) (cs : List ℕ) (f : Fits h hs cs) (le : length hs ≡ 64) (lc : length cs ≡ 4096) where
+module _ (d : RaftReplicaIdentity) (b : RaftPersistenceBatch) (lent : List ℕ)
+    (h : Header) (hs : List RecoveredRaftLogEntry) (cs : List ℕ) (f : Fits h hs cs) (le : length hs ≡ 64) (lc : length cs ≡ 4096) (low : Low h b) where
   abbrev own : Identity
   own = identity_of d
 
@@ -283,18 +288,26 @@ module _ (d : RaftReplicaIdentity) (b : RaftPersistenceBatch) (lent : List ℕ) 
   abbrev records_with : Option RaftSnapshotPointerRecord → M.Prepared
   records_with s = (pointer_records (maybe_pointer_of s) ++ records_of own asked.entries) ++ hard_state_records own asked.hard_state
 
-  pointed_of : (s : Option RaftSnapshotPointerRecord) → Prepares (followed (point_in own p₀ s cs) follow) (records_with s) (M.pointed own asked base (maybe_pointer_of s) v₀)
-  pointed_of None =
+  base_low : v₀.log.snapshot_index ≤ u64_max
+  unfolding view_of
+  base_low = low.head
+
+  pointer_low : (r : RaftSnapshotPointerRecord) → b.snapshot ≡ Some r → (M.preview_pointer (pointer_record_of r) v₀).log.snapshot_index ≤ u64_max
+  unfolding D.with_pointer
+  pointer_low r e = low.pointer r e
+
+  pointed_of : (s : Option RaftSnapshotPointerRecord) → b.snapshot ≡ s → Prepares (followed (point_in own p₀ s cs) follow) (records_with s) (M.pointed own asked base (maybe_pointer_of s) v₀)
+  pointed_of None q =
       carry (follow p₀ cs) (records_with None) (M.pointed own asked base None v₀) (M.extended own asked base asked.entries v₀) pointed_none
-      (entries_prepare own b lent h hs cs d small p₀ cs v₀ m₀ refl)
-  pointed_of (Some r) =
+      (entries_prepare own b lent h hs cs d p₀ cs v₀ m₀ refl base_low)
+  pointed_of (Some r) q =
       follow_step (point_ran own p₀ r cs) (M.preview_pointer (pointer_record_of r) v₀) (M.extended own asked base asked.entries) (M.pointed own asked base (Some (pointer_record_of r)) v₀) follow
       (records_with (Some r)) (pointed_some r)
-      (λ y. entries_prepare own b lent h hs cs d small (point_ran own p₀ r cs).preview (point_ran own p₀ r cs).bytes (M.preview_pointer (pointer_record_of r) v₀) y.means y.lsn)
+      (λ y. entries_prepare own b lent h hs cs d (point_ran own p₀ r cs).preview (point_ran own p₀ r cs).bytes (M.preview_pointer (pointer_record_of r) v₀) y.means y.lsn (pointer_low r q))
 
   pointed_prepare : Prepares (pointed_ran d b h.hard_state lent p₀ cs) (batch_records own asked) (M.pointed own asked base asked.snapshot v₀)
   unfolding pointed_ran
-  pointed_prepare = pointed_of b.snapshot
+  pointed_prepare = pointed_of b.snapshot refl
 
   prepare_is : M.prepare_on own asked base ≡ M.previewed (M.batch_rows own asked base) v₀ (M.pointed own asked base asked.snapshot)
   unfolding M.prepare_on view_of

@@ -36,7 +36,7 @@ use Rattle.preview.specs.Preview.{Ran, ran_of, formed_by, Sits}
 use Rattle.persistence.specs.Prepare.{beginning, pointed_ran, prepare_ran}
 use Rattle.persistence.specs.Prepares.{batch_records, Prepares}
 use Rattle.persistence.specs.Tries.{Kept, tried_on}
-use Rattle.persistence.proofs.Prepared.{prepares}
+use Rattle.persistence.proofs.Prepared.{Low, prepares}
 
 -- The copies that are written are those of the model.
 module _ (s : RecoveredRaftStorage) (st : List ℕ) (o : Own) (es : List RecoveredRaftLogEntry) (cs : List ℕ) (ee : es ≡ entries_in s o.place)
@@ -70,16 +70,16 @@ module _ {s : RecoveredRaftStorage} {st : List ℕ} {i : RaftReplicaIdentity} {o
         sits = record { fits = w.means.fits; places = w.means.places; bytes = w.means.bytes };
       }
 
-  pub tried : (b : RaftPersistenceBatch) (lent : List ℕ) → ((n : ℕ) → get_or b.entries.index n 0 ≤ u64_max)
+  pub tried : (b : RaftPersistenceBatch) (lent : List ℕ) → Low o.head b
       → Prepares (tried_on s st i b lent o) (batch_records (identity_of i) (batch_of b lent)) (M.prepare_on (identity_of i) (batch_of b lent) (replica_of (identity_of i) (meaning s st)))
   unfolding tried_on
-  tried b lent small =
+  tried b lent low =
       subst (λ (g : D.Log ℕ). Prepares (tried_on s st i b lent o) (batch_records (identity_of i) (batch_of b lent)) (M.prepare_on (identity_of i) (batch_of b lent) g)) w.means.view
-      (prepares i b lent small o.head (entries_in s o.place) (block_of st o) w.means.fits w.means.places w.means.bytes)
+      (prepares i b lent o.head (entries_in s o.place) (block_of st o) w.means.fits w.means.places w.means.bytes low)
 
 -- A batch that is not refused has at most 32 entries.
 module _ (s : RecoveredRaftStorage) (st : List ℕ) (d : RaftReplicaIdentity) (b : RaftPersistenceBatch) (lent : List ℕ) (o : Own) where
-  pub tried_few : (tried_on s st d b lent o).refused ≡ None → b.entries.count ≤ 32
+  pub tried_few : (tried_on s st d b lent o).refused ≡ None → length b.entries.now ≤ 32
   unfolding tried_on prepare_ran M.batch_rows
   tried_few = go (first_of rows) refl
     where
@@ -92,9 +92,9 @@ module _ (s : RecoveredRaftStorage) (st : List ℕ) (d : RaftReplicaIdentity) (b
       rows : List Row
       rows = M.batch_rows (identity_of d) (batch_of b lent) was
 
-      go : (x : Option ℕ) → first_of rows ≡ x → (formed_by x p (block_of st o) (pointed_ran d b p.head.hard_state lent p (block_of st o))).refused ≡ None → b.entries.count ≤ 32
+      go : (x : Option ℕ) → first_of rows ≡ x → (formed_by x p (block_of st o) (pointed_ran d b p.head.hard_state lent p (block_of st o))).refused ≡ None → length b.entries.now ≤ 32
       go (Some n) e z = absurd (none_some (sym z))
-      go None e z = omega (arith, ltb-false 32 (length (entries_of b.entries lent)) (clear rows e).1.1.0, entries_count b.entries lent)
+      go None e z = omega (arith, ltb-false 32 (length (entries_of b.entries.now lent)) (clear rows e).1.1.0, entries_count b.entries.now lent)
 
 -- The definition's preparation, where state and store are sound and where they are not.
 module _ (w : Recovery) (i : Identity) (b : M.Batch) where

@@ -18,7 +18,7 @@ use Rattle.batches.specs.declared.RaftPersistenceBatch.{RaftPersistenceBatch}
 use Rattle.preview.specs.declared.Preview.{Preview}
 use Rattle.batches.specs.Checks.{pointer_rows, hard_state_rows, term_rows}
 use Rattle.batches.specs.Meaning.{batch_of}
-use Rattle.preview.specs.Preview.{Ran, ran, formed_by, onward, extend_from}
+use Rattle.preview.specs.Preview.{Ran, ran, formed_by, onward, extend_over}
 
 -- The term of the entry that a preview holds at an index.
 abbrev pub held_at : Preview → ℕ → Option ℕ
@@ -72,7 +72,7 @@ unfoldable pub lastly_ran : Option RaftSnapshotPointerRecord → Option HardStat
 lastly_ran snapshot hard kept p cs = followed (harden_in kept snapshot hard p cs) (conclude_ran hard kept)
 
 unfoldable pub entries_ran : RaftReplicaIdentity → RaftPersistenceBatch → Option HardState → List ℕ → Preview → List ℕ → Ran
-entries_ran d b kept lent p cs = followed (extend_from b.entries.count 0 d b.entries lent p cs) (lastly_ran b.snapshot b.hard_state kept)
+entries_ran d b kept lent p cs = followed (extend_over d b.entries.now lent p cs) (lastly_ran b.snapshot b.hard_state kept)
 
 unfoldable pub pointed_ran : RaftReplicaIdentity → RaftPersistenceBatch → Option HardState → List ℕ → Preview → List ℕ → Ran
 pointed_ran d b kept lent p cs = followed (point_in (identity_of d) p b.snapshot cs) (entries_ran d b kept lent)

@@ -26,14 +26,13 @@ fn held_at(preview: Preview, index: u64) -> Option<u64>
 }
 
 // The first k entries go, and the others move down.
+#[tactic(auto, using(store::proofs::Part::pasted))]
 fn move_entries(preview: Preview, k: usize) -> Preview
     requires { (k ≤ preview.head.len) × (preview.head.len ≤ 64) }
     ensures { result ≡ moved_down preview k }
 {
     let mut t = preview;
-    for j in 0..preview.head.len - k {
-        t.entries[j] = t.entries[k + j];
-    }
+    t.entries.copy_within(k..preview.head.len, 0);
     t
 }
 
@@ -169,8 +168,8 @@ fn supply_batch(
     block: &mut [u8],
     lent: &[u8],
 ) -> Extended
-    requires { (Sits preview block.old) × (batch.entries.count ≤ 32) }
-    ensures { ran_of result block.new ≡ entries_ran identity batch kept lent.now preview block.old }
+    requires { Sits preview block.old }
+    ensures { ran_of result block.new ≡ entries_ran identity batch.entry kept lent.now preview block.old }
 {
     let supplied = preview::extend(preview, identity, batch.entries, block, lent);
     if let Err(_) = supplied.answer {
@@ -188,8 +187,8 @@ fn apply_batch(
     block: &mut [u8],
     lent: &[u8],
 ) -> Extended
-    requires { (Sits preview block.old) × (batch.entries.count ≤ 32) }
-    ensures { ran_of result block.new ≡ pointed_ran identity batch kept lent.now preview block.old }
+    requires { Sits preview block.old }
+    ensures { ran_of result block.new ≡ pointed_ran identity batch.entry kept lent.now preview block.old }
 {
     let pointed = point_batch(preview, identity, batch.snapshot, block);
     if let Err(_) = pointed.answer {
@@ -216,7 +215,7 @@ pub fn prepare_on(
     lent: &[u8],
 ) -> Extended
     requires { Sits (beginning head entries) block.old }
-    ensures { ran_of result block.new ≡ prepare_ran identity batch lent.now (beginning head entries) block.old }
+    ensures { ran_of result block.new ≡ prepare_ran identity batch.entry lent.now (beginning head entries) block.old }
 {
     let preview = Preview {
         head,

@@ -18,8 +18,7 @@ use Rattle.preview.specs.declared.Preview.{Preview}
 use Rattle.batches.specs.Meaning.{entry_of, entries_of, record_of}
 use Rattle.preview.specs.Preview.{Ran, entry_ran, onward, extend_over, Sits}
 use Rattle.preview.specs.Extends.{Next, records_of, Extends}
-use Rattle.batches.proofs.Entries.{Small}
-use Rattle.preview.proofs.Supplied.{entry_next, entry_refuses}
+use Rattle.preview.proofs.Supplied.{index_low, entry_next, entry_refuses}
 
 -- Refused by the first row, else what follows.
 pub refused_by : (rows : List Row) (v : M.Preview) (go : M.Preview → Result M.Preview ℕ) (n : ℕ) → first_of rows ≡ Some n → M.previewed rows v go ≡ Err n
@@ -60,10 +59,10 @@ module _ (i : Identity) (batch : M.Batch) (was : D.Log ℕ) where
           records = a.records ∙ append_assoc v.records ((i, entry 1 e.log_entry) ∷ []) (records_of i l);
         })
 
-  -- The entries of a batch; their indices are machine numbers.
+  -- The entries of a batch, on a log whose boundary has 64 bits.
   module _ (d : RaftReplicaIdentity) (lent : List ℕ) where
     -- One entry, and what the rest of the batch does on the preview that it leaves.
-    module _ (e : BatchEntry) (small : e.index ≤ u64_max) (p : Preview) (cs : List ℕ) (v : M.Preview) (m : Means p.head p.entries cs v.log) (at : v.lsn ≡ p.lsn) where
+    module _ (e : BatchEntry) (p : Preview) (cs : List ℕ) (v : M.Preview) (m : Means p.head p.entries cs v.log) (at : v.lsn ≡ p.lsn) (low : v.log.snapshot_index ≤ u64_max) where
       abbrev x : Ran
       x = entry_ran p (record_of d e) cs lent
 
@@ -78,20 +77,28 @@ module _ (i : Identity) (batch : M.Batch) (was : D.Log ℕ) where
           ap (λ (n : ℕ). D.with_entry (log_entry_of (record_of d e) lent) (n + 1) (view_of p.head p.entries cs)) (sym at)
           ∙ ap (λ (g : D.Log ℕ). D.with_entry (log_entry_of (record_of d e) lent) (v.lsn + 1) g) m.view
 
+      head_low : p.head.snapshot_index ≤ u64_max
+      unfolding view_of
+      head_low = rw (ap (λ (g : D.Log ℕ). g.snapshot_index) m.view) low
+
+      next_low : (M.preview_entry i (log_entry_of (record_of d e) lent) v).log.snapshot_index ≤ u64_max
+      unfolding D.with_entry
+      next_low = low
+
       turn : (es : List BatchEntry) (l : List M.BatchEntry)
-          → (next : (p : Preview) (cs : List ℕ) (v : M.Preview) → Means p.head p.entries cs v.log → v.lsn ≡ p.lsn → Extends (extend_over d es lent p cs) i batch was l v (M.extended i batch was l v))
+          → (next : (p : Preview) (cs : List ℕ) (v : M.Preview) → Means p.head p.entries cs v.log → v.lsn ≡ p.lsn → v.log.snapshot_index ≤ u64_max → Extends (extend_over d es lent p cs) i batch was l v (M.extended i batch was l v))
           → (o : Option ℕ) → x.refused ≡ o
           → Extends (onward o x (extend_over d es lent x.preview x.bytes)) i batch was (entry_of lent e ∷ l) v (M.extended i batch was (entry_of lent e ∷ l) v)
       turn es l next (Some c) w = inl (record { number = c; refused = w; says = extended_refused (entry_of lent e) l v c (rows ∙ w) })
       turn es l next None w =
-          let y : Next p cs (log_entry_of (record_of d e) lent) x = entry_next p cs sits (record_of d e) lent small w in
+          let y : Next p cs (log_entry_of (record_of d e) lent) x = entry_next p cs sits (record_of d e) lent (index_low p cs sits (record_of d e) lent head_low) w in
           longer (entry_of lent e) l v (extend_over d es lent x.preview x.bytes) (rows ∙ w)
           (next x.preview x.bytes (M.preview_entry i (log_entry_of (record_of d e) lent) v)
           (subst (λ (g : D.Log ℕ). Means x.preview.head x.preview.entries x.bytes g) same_log_lem y.means)
-          (ap (λ (n : ℕ). n + 1) at ∙ sym y.lsn))
+          (ap (λ (n : ℕ). n + 1) at ∙ sym y.lsn) next_low)
 
-    pub extends : (es : List BatchEntry) → Small es → (p : Preview) (cs : List ℕ) (v : M.Preview) → Means p.head p.entries cs v.log → v.lsn ≡ p.lsn
+    pub extends : (es : List BatchEntry) (p : Preview) (cs : List ℕ) (v : M.Preview) → Means p.head p.entries cs v.log → v.lsn ≡ p.lsn → v.log.snapshot_index ≤ u64_max
         → Extends (extend_over d es lent p cs) i batch was (entries_of es lent) v (M.extended i batch was (entries_of es lent) v)
     unfolding extend_over entries_of
-    extends [] small p cs v m at = inr (record { next = v; refused = refl; says = extended_none v; means = m; lsn = at; records = sym (append-nil v.records) })
-    extends (e ∷ es) small p cs v m at = turn e (small 0) p cs v m at es (entries_of es lent) (extends es (λ k. small (suc k))) (entry_ran p (record_of d e) cs lent).refused refl
+    extends [] p cs v m at low = inr (record { next = v; refused = refl; says = extended_none v; means = m; lsn = at; records = sym (append-nil v.records) })
+    extends (e ∷ es) p cs v m at low = turn e p cs v m at low es (entries_of es lent) (extends es) (entry_ran p (record_of d e) cs lent).refused refl

@@ -145,7 +145,7 @@ module _ (d : RaftReplicaIdentity) (es : List BatchEntry) (lent : List ℕ) wher
           pub run_next : r.index ≤ u64_max → t.answer ≡ (Ok tt) → Running p₀ cs₀ t.preview cs' o (i + 1)
           run_next small w =
               let y : entry_ran p r cs lent ≡ ran_of t cs' = formed_in ∙ sym et in
-              let m : Next p cs (log_entry_of r lent) (entry_ran p r cs lent) = entry_next p cs k.sits r lent small (ap (λ (z : Ran). z.refused) y ∙ ap checked_of w) in
+              let m : Next p cs (log_entry_of r lent) (entry_ran p r cs lent) = entry_next p cs k.sits r lent (λ c. small) (ap (λ (z : Ran). z.refused) y ∙ ap checked_of w) in
               let m' : Next p cs (log_entry_of r lent) (ran_of t cs') = rw y at m in
               record {
                 ready = k.ready;

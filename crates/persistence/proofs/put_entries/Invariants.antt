@@ -1,10 +1,9 @@
--- `put_entries` meets its contract. The invariant: the records of the first i entries are in place.
+-- `put_entries`: the records of the first entries stand behind what there was.
 use mathlib.Core.Path.{◌≡◌}
+use mathlib.Core.List.{◌++◌}
 use lib.ListN.{take}
-use Rattle.store.specs.Splice.{splice}
 use Rattle.persistence.specs.Answer.{entry_records}
 use Rattle.persistence.proofs.put_entries.Given as goal
 
-abbrev pub invariant-loop-i : goal.invariant-loop-i
-invariant-loop-i l =
-    (l.records ≡ splice l.initial.records l.base (take l.i (entry_records l.entries.count l.entries l.identity)))
+abbrev pub invariant-loop-entry : goal.invariant-loop-entry
+invariant-loop-entry l = l.records.items ≡ l.initial.records.items ++ entry_records l.identity (take l.entry-index l.entries)

@@ -13,7 +13,7 @@ returns-in-Err c =
 pub supply_batch-requires : goal.supply_batch-requires
 supply_batch-requires c =
     let a = c.args in
-    (pointed_sits (identity_of a.identity) a.preview a.block.now c.requires.0 a.batch.snapshot c.point_batch-pointed.result _ c.point_batch-pointed.ensures c.in_default.is, c.requires.1)
+    pointed_sits (identity_of a.identity) a.preview a.block.now c.requires a.batch.snapshot c.point_batch-pointed.result _ c.point_batch-pointed.ensures c.in_default.is
 
 pub returns : goal.returns
 returns c =

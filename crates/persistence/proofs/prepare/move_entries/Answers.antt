@@ -1,26 +1,17 @@
--- `prepare::move_entries` meets its contract. The invariant: the first j entries are moved.
+-- `prepare::move_entries` meets its contract.
+use mathlib.Core.Path.{◌≡◌, refl, ap, ◌∙◌}
 use Prim.Native.Nat.{◌-◌}
-use mathlib.Core.Path.{◌≡◌, refl}
 use native.Mathlib.Omega.{arith}
+use mathlib.Core.List.{List}
 use lib.ListN.{length}
 use borrow.Author.Rules.{rules}
-use Rattle.persistence.proofs.Moved.{move_start, move_turn, move_end}
+use Rattle.view.specs.declared.RecoveredRaftLogEntry.{RecoveredRaftLogEntry}
+use Rattle.store.proofs.Part.{pasted}
 use Rattle.persistence.proofs.prepare.move_entries.Goals as goal
-
-pub loop-j-init : goal.loop-j-init
-loop-j-init c =
-    let a = c.args in
-    let l : length a.preview.entries ≡ 64 = search rules in
-    move_start a.k (a.preview.head.len - a.k) a.preview (omega (arith, c.requires.0, c.requires.1)) l
-
-pub loop-j-preserved : goal.loop-j-preserved
-loop-j-preserved c =
-    let l = c.loop-j in
-    let a = c.args in
-    move_turn a.k (a.preview.head.len - a.k) a.preview l.t l.j l.invariant c.loop-j-test.true
 
 pub returns : goal.returns
 returns c =
-    let l = c.loop-j in
-    let a = c.args in
-    move_end a.k (a.preview.head.len - a.k) a.preview l.t l.j l.invariant c.loop-j-test.false refl
+    let p = c.args.preview in
+    let l : length p.entries ≡ 64 = search (rules, c.well_formed) in
+    ap (λ (es : List RecoveredRaftLogEntry). (record { head = p.head; entries = es; lsn = p.lsn }))
+    (c.copy_within.ensures.after ∙ pasted p.entries 0 c.args.k (p.head.len - c.args.k) _ refl (omega (arith, l, c.requires.0, c.requires.1)))

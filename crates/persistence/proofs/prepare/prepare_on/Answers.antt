@@ -4,7 +4,7 @@ use mathlib.Core.Path.{◌≡◌, sym, ap, subst, ◌∙◌}
 use Rattle.preview.specs.declared.Preview.{Preview}
 use Rattle.preview.specs.Preview.{Sits}
 use Rattle.persistence.specs.Prepare.{beginning, prepare_ran}
-use Rattle.persistence.proofs.Pointed.{batch_few, prepare_out, prepare_in}
+use Rattle.persistence.proofs.Pointed.{prepare_out, prepare_in}
 use Rattle.persistence.proofs.prepare.prepare_on.Goals as goal
 
 pub returns-in-Err : goal.returns-in-Err
@@ -19,7 +19,7 @@ apply_batch-requires c =
     let a = c.args in
     let q : Preview = record { head = a.head; entries = a.entries; lsn = c.number_of.result } in
     let e : q ≡ beginning a.head a.entries = ap (λ (n : ℕ). record { head = a.head; entries = a.entries; lsn = n }) c.number_of.ensures in
-    (subst (λ (y : Preview). Sits y a.block.now) (sym e) c.requires, batch_few a.identity a.batch a.lent.now q a.block.now c.check_batch.result c.check_batch.ensures c.in_default.is)
+    subst (λ (y : Preview). Sits y a.block.now) (sym e) c.requires
 
 pub returns : goal.returns
 returns c =
