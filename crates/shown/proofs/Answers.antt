@@ -5,9 +5,7 @@ use mathlib.Core.Path.{◌≡◌, refl, sym, ap, ◌∙◌}
 use mathlib.Core.Logic.{inl, inr}
 use mathlib.Core.Bool.{Bool, true, false, true≢false}
 use mathlib.Core.List.{List}
-use Prim.Native.Nat.{ℕ, ◌≤◌}
-use lib.ListN.{get_or}
-use Rattle.definition.specs.Table.{u64_max}
+use Prim.Native.Nat.{ℕ}
 use Rattle.definition.specs.Records.{Identity}
 use Rattle.definition.specs.Log.{Log}
 use Rattle.definition.specs.Recovery.{replica_of, sound}
@@ -28,11 +26,12 @@ use Rattle.preview.specs.declared.Extended.{Extended}
 use Rattle.preview.specs.Preview.{Ran, ran_of}
 use Rattle.persistence.specs.Prepares.{batch_records, Prepares}
 use Rattle.persistence.specs.Tries.{tried_on}
+use Rattle.persistence.proofs.Prepared.{Low}
 use Rattle.persistence.proofs.Answered.{told_refused}
 use Rattle.persistence.proofs.Tried.{tried, prepare_sound, prepare_unsound}
 use Rattle.shown.specs.declared.Shown.{Shown}
 use Rattle.shown.specs.Shows.{shown_of, ShowsAt, shown_by}
-use Rattle.shown.proofs.Previewed.{entries_fit, preview_shows}
+use Rattle.shown.proofs.Previewed.{preview_shows}
 
 -- The part of the bytes that is shown.
 pub shows_part : {A : Type 0} {s : RecoveredRaftStorage} {st : List ℕ} {i : RaftReplicaIdentity} {b : RaftPersistenceBatch} {lent : List ℕ} {index : ℕ} {y : M.Shown}
@@ -74,7 +73,7 @@ module _ (s : RecoveredRaftStorage) (st : List ℕ) (i : RaftReplicaIdentity) (b
   shows_unsound t k q = record { means = λ y. absurd (true≢false (sym y ∙ test_failed k q)); refused = λ y. refl; unsound = previewed_unsound }
 
   -- They are, and the batch was tried.
-  module _ (o : Own) (w : Owns s st i o) (small : (n : ℕ) → get_or b.entries.index n 0 ≤ u64_max) where
+  module _ (o : Own) (w : Owns s st i o) (low : Low o.head b) where
     abbrev ran : Ran
     ran = tried_on s st i b lent o
 
@@ -88,19 +87,19 @@ module _ (s : RecoveredRaftStorage) (st : List ℕ) (i : RaftReplicaIdentity) (b
     module _ (d : Extended) (e : ran_of d (tried_on s st i b lent o).bytes ≡ tried_on s st i b lent o) where
       pub shows_refused : (why : Refusal) → d.answer ≡ Err why → ShowsAt s st i b lent index (λ x. x) M.nothing
       unfolding M.shown_in
-      shows_refused why q = shows_sound M.nothing (go (tried w b lent small))
+      shows_refused why q = shows_sound M.nothing (go (tried w b lent low))
         where
           go : Asked → M.nothing ≡ defined
           go (inl a) = sym (previewed_sound w.whole (Err a.number) a.says)
           go (inr a) = absurd (none_some (sym a.refused ∙ told_refused d ran (Err why) e q))
 
-      pub shows_ready : d.answer ≡ (Ok tt) → (r : Option Shown) → r ≡ shown_by o d.preview (M.supplied index (entries_of b.entries lent)) index
+      pub shows_ready : d.answer ≡ (Ok tt) → (r : Option Shown) → r ≡ shown_by o d.preview (M.supplied index (entries_of b.entries.now lent)) index
           → ShowsAt s st i b lent index (λ x. x) (shown_of r)
       shows_ready q r y =
           shows_sound (shown_of r)
-          (ap shown_of y ∙ ap (λ (x : Ran). shown_of (shown_by o x.preview (M.supplied index (entries_of b.entries lent)) index)) e ∙ go (tried w b lent small))
+          (ap shown_of y ∙ ap (λ (x : Ran). shown_of (shown_by o x.preview (M.supplied index (entries_of b.entries.now lent)) index)) e ∙ go (tried w b lent low))
         where
-          go : Asked → shown_of (shown_by o ran.preview (M.supplied index (entries_of b.entries lent)) index) ≡ defined
+          go : Asked → shown_of (shown_by o ran.preview (M.supplied index (entries_of b.entries.now lent)) index) ≡ defined
           go (inl a) = absurd (none_some (sym (told_refused d ran (Ok tt) e q) ∙ a.refused))
           go (inr a) =
-              preview_shows s st i o w b lent index ran a.next a.stands a.says (entries_fit b lent small) ∙ sym (previewed_sound w.whole (Ok a.next) a.says)
+              preview_shows s st i o w b lent index ran a.next a.stands a.says low ∙ sym (previewed_sound w.whole (Ok a.next) a.says)

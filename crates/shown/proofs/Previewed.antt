@@ -6,7 +6,7 @@ use mathlib.Core.Bool.{true}
 use mathlib.Core.List.{List}
 use Prim.Native.Nat.{ℕ, ◌+◌, ◌*◌, ◌-◌, ◌<◌, ◌≤◌}
 use native.Mathlib.Omega.{arith}
-use borrow.Author.Tests.{lt-ltb, le-leb}
+use borrow.Author.Tests.{lt-ltb}
 use lib.ListN.{length, take, get_or}
 use lib.Seq.{length-take-le}
 use Rattle.definition.specs.Table.{every, or_zero, u64_max}
@@ -18,6 +18,8 @@ use Rattle.definition.proofs.Laws.{and_l, all_facts}
 use Rattle.definition.proofs.Order.{Keeps, every_lookup}
 use Rattle.definition.proofs.Sound.{sound_held, state_facts}
 use Rattle.definition.proofs.SoundLog.{SoundLog, log_facts, empty_sound}
+use Rattle.codec.specs.declared.RaftSnapshotPointerRecord.{RaftSnapshotPointerRecord}
+use Rattle.codec.specs.Records.{maybe_pointer_of}
 use Rattle.ids.specs.declared.RaftReplicaIdentity.{RaftReplicaIdentity}
 use Rattle.ids.specs.Identity.{identity_of}
 use Rattle.store.proofs.Part.{length_part}
@@ -32,7 +34,6 @@ use Rattle.replay.specs.Plan.{look_of}
 use Rattle.replay.proofs.Settled.{look_held}
 use Rattle.storage.specs.declared.RecoveredRaftStorage.{RecoveredRaftStorage}
 use Rattle.storage.specs.Meaning.{meaning, recovery_of}
-use Rattle.storage.proofs.Rank.{every_tab}
 use Rattle.readers.specs.declared.Own.{Own}
 use Rattle.readers.specs.Own.{own_in}
 use Rattle.readers.proofs.Owns.{log_in, Owns}
@@ -41,8 +42,9 @@ use Rattle.batches.specs.Meaning as B
 use Rattle.preview.specs.declared.Preview.{Preview}
 use Rattle.preview.specs.Preview.{Ran}
 use Rattle.persistence.specs.Prepares.{Stands}
+use Rattle.persistence.proofs.Prepared.{Low}
 use Rattle.shown.specs.Shows.{shown_of, payload_shown, place_shown, shown_by}
-use Rattle.shown.proofs.Unsupplied.{Holds, index_fits, unsupplied}
+use Rattle.shown.proofs.Unsupplied.{Holds, PointerLow, unsupplied}
 
 -- The log that a sound state holds for a replica is sound.
 pub replica_sound : (s : RecoveredRaftStorage) (st : List ℕ) (i : Identity) → sound (recovery_of s st) ≡ true → SoundLog (replica_of i (meaning s st))
@@ -56,10 +58,13 @@ replica_sound s st i e = go (lookup i (meaning s st).replicas) (every_lookup (so
     go None k = empty_sound
     go (Some v) k = log_facts v (all_facts (held_clauses (meaning s st).last_scanned_lsn (record { id = i; log = v })) k).1.0
 
--- The indices of a batch are machine numbers.
-pub entries_fit : (b : RaftPersistenceBatch) (lent : List ℕ) → ((n : ℕ) → get_or b.entries.index n 0 ≤ u64_max) → every index_fits (B.entries_of b.entries lent) ≡ true
-unfolding B.entries_of
-entries_fit b lent small = every_tab index_fits b.entries.count (B.entry_at b.entries lent) (λ n l. le-leb (get_or b.entries.index n 0) u64_max (small n))
+-- A batch's pointer has an index of 64 bits.
+pub pointer_fits : (b : RaftPersistenceBatch) (lent : List ℕ) {h : Header} → Low h b → PointerLow (B.batch_of b lent).snapshot
+pointer_fits b lent l = go b.snapshot refl
+  where
+    go : (s : Option RaftSnapshotPointerRecord) → b.snapshot ≡ s → PointerLow (maybe_pointer_of s)
+    go None q = tt
+    go (Some p) q = l.pointer p q
 
 -- Where the log holds the index, that is the place looked at.
 look_holds : (h : Header) (es : List RecoveredRaftLogEntry) (cs : List ℕ) (x : ℕ) → h.len ≤ 64 → Holds (view_of h es cs) x → x - base_of h ≡ look_of h x
@@ -78,7 +83,7 @@ module _ (s : RecoveredRaftStorage) (st : List ℕ) (i : RaftReplicaIdentity) (o
   was = replica_of own (meaning s st)
 
   abbrev from : Option ℕ
-  from = M.supplied index (B.entries_of b.entries lent)
+  from = M.supplied index (B.entries_of b.entries.now lent)
 
   own_place : or_zero (λ p. p) (place_of own (meaning s st).replicas) ≡ o.place
   own_place = go (place_of own (meaning s st).replicas) ∙ ap (λ (x : Own). x.place) (sym w.stands)
@@ -110,7 +115,7 @@ module _ (s : RecoveredRaftStorage) (st : List ℕ) (i : RaftReplicaIdentity) (o
       go None k = ap (λ (a : ℕ). M.of_log a n) (store_place_lem (k refl)) ∙ ap (M.of_log (M.store_place own (meaning s st) index)) size
 
   -- A preview that stands for the definition's.
-  module _ (x : Ran) (v : M.Preview) (k : Stands x v) (e : M.prepare_on own batch was ≡ Ok v) (fit : every index_fits batch.entries ≡ true) where
+  module _ (x : Ran) (v : M.Preview) (k : Stands x v) (e : M.prepare_on own batch was ≡ Ok v) (low : Low o.head b) where
     abbrev p : Preview
     p = x.preview
 
@@ -125,8 +130,12 @@ module _ (s : RecoveredRaftStorage) (st : List ℕ) (i : RaftReplicaIdentity) (o
           below = omega (arith, h.index, h.below, base_is p.head p.entries x.bytes, count_is p.head p.entries x.bytes);
         })
 
+    was_low : was.snapshot_index ≤ u64_max
+    unfolding view_of
+    was_low = rw (sym (ap (λ (g : Log ℕ). g.snapshot_index) w.view)) low.head
+
     held_before : (q : ℕ) → R.place_of p.head index ≡ Some q → from ≡ None → Holds was index
-    held_before q a u = unsupplied own batch was index v (replica_sound s st own w.whole) fit u e (previewed_holds q a)
+    held_before q a u = unsupplied own batch was index v (replica_sound s st own w.whole) was_low (pointer_fits b lent low) u e (previewed_holds q a)
 
     abbrev shown_entry : Option (Entry ℕ) → M.Shown
     shown_entry y = elim y [ None ↦ M.nothing | Some g ↦ M.shown_as from (M.store_place own (meaning s st) index) g.payload ]
@@ -140,7 +149,7 @@ module _ (s : RecoveredRaftStorage) (st : List ℕ) (i : RaftReplicaIdentity) (o
         rw (look_held p.head index q k.means.fits.short a)
         (payload_shows (get_or p.entries q no_entry).payload (cell_at x.bytes q) (k.means.fits.sizes q h.below) c (held_before q a))
 
-    pub preview_shows : shown_of (shown_by o x.preview (M.supplied index (B.entries_of b.entries lent)) index) ≡ M.shown_in (identity_of i) (meaning s st) (B.batch_of b lent) (Ok v) index
+    pub preview_shows : shown_of (shown_by o x.preview (M.supplied index (B.entries_of b.entries.now lent)) index) ≡ M.shown_in (identity_of i) (meaning s st) (B.batch_of b lent) (Ok v) index
     unfolding M.shown_in
     preview_shows =
         place_shows (R.place_of p.head index) refl

@@ -2,26 +2,48 @@
 -- Assumes nothing.
 use mathlib.Core.Path.{◌≡◌, refl, sym, subst}
 use mathlib.Core.Bool.{Bool, true, false}
+use mathlib.Core.Logic.{inl, inr}
 use mathlib.Core.List.{List, [], ◌∷◌}
 use Prim.Native.Nat.{ℕ, ◌+◌, ◌<◌, ◌≤◌}
 use native.Mathlib.Omega.{arith}
-use borrow.Author.Tests.{eqb-true, eqb-false, leb-true, leb-false, not-false}
-use Rattle.std.specs.Prelude.{if◌then◌else◌, Option, None, Some, Result, Ok, Err}
-use Rattle.definition.specs.Table.{◌=?◌, ◌≠?◌, ◌<?◌, ◌≤?◌, Row, first_of, every, is_some, or_zero, if_some, u64_max}
+use borrow.Author.Tests.{eqb-true, eqb-false, ne_eqb, ltb-true, ltb-false, not-false}
+use Rattle.std.specs.Prelude.{if◌then◌else◌, pred, Option, None, Some, option_map, Result, Ok, Err}
+use Rattle.definition.specs.Table.{◌=?◌, ◌≠?◌, ◌<?◌, Row, first_of, is_some, or_zero, if_some, u64_max}
 use Rattle.definition.specs.Records.{Identity, LogEntry, HardState}
-use Rattle.definition.specs.Log.{Log, PointerRecord, base, count, last, is_held, kept_pointer, entry_at_or_below_snapshot, replay_rows, with_entry, with_pointer, with_hard}
+use Rattle.definition.specs.Log.{Log, PointerRecord, base, count, last, last_index, snapshot_boundary, is_held, kept_pointer, entry_at_or_below_snapshot, replay_rows, with_entry, with_pointer, with_hard}
 use Rattle.definition.specs.Batch.{BatchEntry, Batch, Preview, preview_pointer, preview_entry, preview_hard_state, previewed, batch_rows, batch_pointer_rows, batch_entry_rows, batch_hard_state_rows, hard_state_before_log_term, concluded, hardened, extended, pointed, prepare_on, supplied}
-use Rattle.definition.proofs.Laws.{and_l, and_r, Clear, clear, none_some}
-use Rattle.definition.proofs.SoundLog.{SoundLog, else_false, base_is, last_is, placed_few, not_below, beyond_count}
+use Rattle.definition.proofs.Laws.{Clear, clear, none_some}
+use Rattle.definition.proofs.SoundLog.{SoundLog, Indices, else_false, base_is, last_is, placed_few, not_below, beyond_count}
 
 -- A log holds an index.
 pub record Holds (log : Log ℕ) (x : ℕ) : Type 0 where
   pub from : base log ≤ x
   pub below : x < base log + count log
 
--- Indices of 64 bits.
-abbrev pub index_fits : BatchEntry → Bool
-index_fits e = e.log_entry.index ≤? u64_max
+-- The boundary and the indices of a log have 64 bits.
+record Low (log : Log ℕ) : Type 0 where
+  pub boundary : log.snapshot_index ≤ u64_max
+  pub indices : base log + count log ≤ u64_max + 1
+
+low_sound : (log : Log ℕ) → SoundLog log → log.snapshot_index ≤ u64_max → Low log
+low_sound log k l = go k.indices
+  where
+    go : Indices log.snapshot_index (count log) → Low log
+    go (inl x) = record { boundary = l; indices = omega (arith, base_is log) }
+    go (inr x) = record { boundary = l; indices = omega (arith, base_is log, x.0, x.1) }
+
+-- At the end of the indices the last one is 2^64 - 1.
+last_end : (log : Log ℕ) → Low log → u64_max ≤ log.snapshot_index → last log ≡ u64_max
+unfolding last last_index snapshot_boundary
+last_end log l m = go (count log =? 0) refl
+  where
+    some : log.snapshot_index ≡ 0 → ⊥
+    some = omega arith
+
+    go : (b : Bool) → (count log =? 0) ≡ b
+        → or_zero (λ n. n) (if b then option_map {T = ℕ × ℕ} (λ x. x.0) (if log.snapshot_index =? 0 then None else Some (log.snapshot_index, log.snapshot_term)) else Some (pred (base log + count log))) ≡ u64_max
+    go true q = rw (ne_eqb log.snapshot_index 0 some) (omega (arith, l.boundary))
+    go false q = let z : pred (base log + count log) ≡ u64_max = omega (arith, base_is log, l.indices, eqb-false (count log) 0 q) in z
 
 -- An entry that is accepted: what is held then is its own index, or was held before.
 module _ (e : LogEntry) (t : ℕ) (log : Log ℕ) (x : ℕ) where
@@ -33,16 +55,39 @@ module _ (e : LogEntry) (t : ℕ) (log : Log ℕ) (x : ℕ) where
   unfolding count with_entry
   entry_count_lem = placed_few e t log
 
-  -- an index that is not held is the next (25, 30)
-  next_index : e.index ≤ u64_max → Clear (entry_at_or_below_snapshot e log ∷ replay_rows e log) → is_held log e.index ≡ false → e.index ≡ base log + count log
-  unfolding replay_rows
-  next_index m c h =
-      let above : log.snapshot_index < e.index = leb-false e.index log.snapshot_index c.0 in
-      let next : e.index ≡ last log + 1 =
-      eqb-true e.index (last log + 1) (not-false (e.index =? last log + 1) (else_false (is_held log e.index) (e.index ≠? last log + 1) c.1.1.1.1.1.0 h)) in
-      omega (arith, last_is log (omega (arith, above, m)), base_is log)
+  abbrev Taken : Type 0
+  Taken = Clear (entry_at_or_below_snapshot e log ∷ replay_rows e log)
 
-  entry_holds : e.index ≤ u64_max → Clear (entry_at_or_below_snapshot e log ∷ replay_rows e log) → (e.index =? x) ≡ false → Holds (with_entry e t log) x → Holds log x
+  -- an index that is not held is the next (29, 30), and has 64 bits
+  next_index : Low log → Taken → is_held log e.index ≡ false → (e.index ≡ base log + count log) × (e.index ≤ u64_max)
+  unfolding replay_rows
+  next_index m c h = go (log.snapshot_index <? u64_max) refl
+    where
+      next : e.index ≡ last log + 1
+      next = eqb-true e.index (last log + 1) (not-false (e.index =? last log + 1) (else_false (is_held log e.index) (e.index ≠? last log + 1) c.1.1.1.1.1.0 h))
+
+      more : last log ≡ u64_max → ⊥
+      more = eqb-false (last log) u64_max (else_false (is_held log e.index) (last log =? u64_max) c.1.1.1.1.0 h)
+
+      go : (b : Bool) → (log.snapshot_index <? u64_max) ≡ b → (e.index ≡ base log + count log) × (e.index ≤ u64_max)
+      go true q =
+          let last_one : last log ≡ log.snapshot_index + count log = last_is log (ltb-true log.snapshot_index u64_max q) in
+          let least : log.snapshot_index < u64_max = ltb-true log.snapshot_index u64_max q in
+          (omega (arith, last_one, next, base_is log, least), omega (arith, last_one, next, more, base_is log, least, m.indices))
+      go false q = absurd (more (last_end log m (ltb-false log.snapshot_index u64_max q)))
+
+  entry_boundary : log.snapshot_index ≤ u64_max → (with_entry e t log).snapshot_index ≤ u64_max
+  unfolding with_entry
+  entry_boundary l = l
+
+  entry_low : Low log → Taken → Low (with_entry e t log)
+  entry_low m c = record { boundary = entry_boundary m.boundary; indices = go (is_held log e.index) refl }
+    where
+      go : (b : Bool) → is_held log e.index ≡ b → base (with_entry e t log) + count (with_entry e t log) ≤ u64_max + 1
+      go true w = omega (arith, entry_base, entry_count_lem.0 w, m.indices)
+      go false w = let n = next_index m c w in omega (arith, entry_base, entry_count_lem.1, n.0, n.1)
+
+  entry_holds : Low log → Taken → (e.index =? x) ≡ false → Holds (with_entry e t log) x → Holds log x
   entry_holds m c o h = go (is_held log e.index) refl
     where
       go : (b : Bool) → is_held log e.index ≡ b → Holds log x
@@ -50,7 +95,7 @@ module _ (e : LogEntry) (t : ℕ) (log : Log ℕ) (x : ℕ) where
       go false w =
           record {
             from = omega (arith, h.from, entry_base);
-            below = omega (arith, h.below, entry_base, entry_count_lem.1, next_index m c w, eqb-false e.index x o);
+            below = omega (arith, h.below, entry_base, entry_count_lem.1, (next_index m c w).0, eqb-false e.index x o);
           }
 
 -- A pointer that is accepted only drops entries from the front.
@@ -61,6 +106,10 @@ unfolding base count with_pointer
 pointer_holds i p t log x s c h =
     let low : log.snapshot_index ≤ p.snapshot.last_included_index = not_below p.snapshot t log i s c in
     record { from = omega (arith, h.from, low); below = omega (arith, h.from, h.below, low, beyond_count p.snapshot t log) }
+
+pointer_low : (p : PointerRecord) (t : ℕ) (log : Log ℕ) → Low log → p.snapshot.last_included_index ≤ u64_max → Low (with_pointer p.snapshot t log)
+unfolding base count with_pointer
+pointer_low p t log m l = record { boundary = l; indices = omega (arith, l, m.indices, beyond_count p.snapshot t log) }
 
 -- A hard state leaves the log.
 hard_holds : (h : Option HardState) (log : Log ℕ) (x : ℕ) → Holds (with_hard h log) x → Holds log x
@@ -84,6 +133,10 @@ unsupplied_cons x e es = go (supplied x es) (e.log_entry.index =? x)
     go None false z = (refl, refl)
     go (Some n) b z = absurd (none_some (sym z))
 
+abbrev pub PointerLow : Option PointerRecord → Type 0
+PointerLow None = Unit {0}
+PointerLow (Some p) = p.snapshot.last_included_index ≤ u64_max
+
 module _ (i : Identity) (b : Batch) (was : Log ℕ) (x : ℕ) (w : Preview) where
   concluded_holds : (v : Preview) → concluded i b was v ≡ Ok w → Holds w.log x → Holds v.log x
   unfolding concluded
@@ -101,30 +154,30 @@ module _ (i : Identity) (b : Batch) (was : Log ℕ) (x : ℕ) (w : Preview) wher
       hard_holds (Some s) v.log x
       (concluded_holds (preview_hard_state i s v) (accepted (batch_hard_state_rows i b was s v) (preview_hard_state i s v) w (concluded i b was) z).1 h)
 
-  extended_holds : (es : List BatchEntry) (v : Preview) → every index_fits es ≡ true → supplied x es ≡ None → extended i b was es v ≡ Ok w → Holds w.log x → Holds v.log x
+  extended_holds : (es : List BatchEntry) (v : Preview) → Low v.log → supplied x es ≡ None → extended i b was es v ≡ Ok w → Holds w.log x → Holds v.log x
   unfolding extended batch_entry_rows
   extended_holds [] v m u z h = hardened_holds b.hard_state v z h
   extended_holds (e ∷ es) v m u z h =
       let a = accepted (batch_entry_rows i b was e.log_entry v) (preview_entry i e.log_entry v) w (extended i b was es) z in
       let c = clear (batch_entry_rows i b was e.log_entry v) a.0 in
       let n = unsupplied_cons x e es u in
-      entry_holds e.log_entry (v.lsn + 1) v.log x (leb-true e.log_entry.index u64_max (and_l (index_fits e) (every index_fits es) m)) c.1.1.1.1.1.1 n.1
-      (extended_holds es (preview_entry i e.log_entry v) (and_r (index_fits e) (every index_fits es) m) n.0 a.1 h)
+      entry_holds e.log_entry (v.lsn + 1) v.log x m c.1.1.1.1.1.1 n.1
+      (extended_holds es (preview_entry i e.log_entry v) (entry_low e.log_entry (v.lsn + 1) v.log x m c.1.1.1.1.1.1) n.0 a.1 h)
 
-  pointed_holds : (s : Option PointerRecord) (v : Preview) → v.log ≡ was → SoundLog was → every index_fits b.entries ≡ true → supplied x b.entries ≡ None
+  pointed_holds : (s : Option PointerRecord) (v : Preview) → v.log ≡ was → SoundLog was → was.snapshot_index ≤ u64_max → PointerLow s → supplied x b.entries ≡ None
       → pointed i b was s v ≡ Ok w → Holds w.log x → Holds v.log x
   unfolding pointed batch_pointer_rows
-  pointed_holds None v l k m u z h = extended_holds b.entries v m u z h
-  pointed_holds (Some p) v l k m u z h =
+  pointed_holds None v l k m q u z h = extended_holds b.entries v (rw l (low_sound was k m)) u z h
+  pointed_holds (Some p) v l k m q u z h =
       let a = accepted (batch_pointer_rows i b was p v) (preview_pointer p v) w (extended i b was b.entries) z in
       let c = clear (batch_pointer_rows i b was p v) a.0 in
       rw l
       (pointer_holds i p (v.lsn + 1) was x k c.1.1.1.1.1.1.1.1.0
-      (subst (λ (g : Log ℕ). Holds (with_pointer p.snapshot (v.lsn + 1) g) x) l (extended_holds b.entries (preview_pointer p v) m u a.1 h)))
+      (subst (λ (g : Log ℕ). Holds (with_pointer p.snapshot (v.lsn + 1) g) x) l (extended_holds b.entries (preview_pointer p v) (pointer_low p (v.lsn + 1) v.log (rw l (low_sound was k m)) q) u a.1 h)))
 
-  -- Of a sound log, and a batch whose indices are of 64 bits.
-  pub unsupplied : SoundLog was → every index_fits b.entries ≡ true → supplied x b.entries ≡ None → prepare_on i b was ≡ Ok w → Holds w.log x → Holds was x
+  -- Of a sound log whose boundary, and a batch whose pointer, has 64 bits.
+  pub unsupplied : SoundLog was → was.snapshot_index ≤ u64_max → PointerLow b.snapshot → supplied x b.entries ≡ None → prepare_on i b was ≡ Ok w → Holds w.log x → Holds was x
   unfolding prepare_on
-  unsupplied k m u z h =
+  unsupplied k m q u z h =
       let v : Preview = record { log = was; lsn = or_zero (λ t. t) was.last_replayed_lsn; records = [] } in
-      pointed_holds b.snapshot v refl k m u (accepted (batch_rows i b was) v w (pointed i b was b.snapshot) z).1 h
+      pointed_holds b.snapshot v refl k m q u (accepted (batch_rows i b was) v w (pointed i b was b.snapshot) z).1 h

@@ -6,7 +6,7 @@ ghost use Rattle.definition.specs.Batch.{shown_bytes, supplied};
 ghost use Rattle.batches.specs.Meaning.{entries_of};
 ghost use Rattle.shown.specs.Shows.{shown_of, ShowsAt, payload_shown, shown_by};
 
-use batches::{BatchEntries, RaftPersistenceBatch};
+use batches::{BatchEntry, RaftPersistenceBatch};
 use ids::RaftReplicaIdentity;
 use preview::Preview;
 use readers::Own;
@@ -21,15 +21,14 @@ pub enum Shown {
 }
 
 // Where the batch's latest entry of an index begins in the lent bytes, if the batch supplied the index.
-#[tactic(auto, using(crate::proofs::Supplying::supply_turn), unfolding(batches::specs::Meaning::entries_of, view::specs::Tab::tab))]
-fn latest(entries: BatchEntries, index: u64) -> Option<usize>
-    requires { entries.count ≤ 32 }
-    ensures { (lent : List ℕ) → result ≡ supplied index (entries_of entries lent) }
+#[tactic(auto, using(crate::proofs::Supplying::supply_turn), unfolding(batches::specs::Meaning::entries_of))]
+fn latest(entries: &[BatchEntry], index: u64) -> Option<usize>
+    ensures { (lent : List ℕ) → result ≡ supplied index (entries_of entries.now lent) }
 {
     let mut found = None;
-    for i in 0..entries.count {
-        if entries.index[i] == index {
-            found = Some(entries.first[i] as usize);
+    for entry in entries {
+        if entry.index == index {
+            found = Some(entry.from());
         }
     }
     found
@@ -51,9 +50,9 @@ fn show_payload(own: Own, from: Option<usize>, payload: EntryPayload, index: u64
 }
 
 // What a preview shows of an index: nothing where the index is not held.
-fn show(own: Own, preview: Preview, entries: BatchEntries, index: u64) -> Option<Shown>
-    requires { (own.place < 8) × (entries.count ≤ 32) }
-    ensures { (lent : List ℕ) → result ≡ shown_by own preview (supplied index (entries_of entries lent)) index }
+fn show(own: Own, preview: Preview, entries: &[BatchEntry], index: u64) -> Option<Shown>
+    requires { own.place < 8 }
+    ensures { (lent : List ℕ) → result ≡ shown_by own preview (supplied index (entries_of entries.now lent)) index }
 {
     let Some(_) = preview.head.place_of(index) else {
         return None;
@@ -81,7 +80,7 @@ pub fn previewed_at(
     lent: &[u8],
     index: u64,
 ) -> Option<Shown>
-    ensures { ShowsAt state store.now identity batch lent.now index (λ x. x) (shown_of result) }
+    ensures { ShowsAt state store.now identity batch.entry lent.now index (λ x. x) (shown_of result) }
 {
     if !readers::passes(state, store) {
         return None;
@@ -103,7 +102,7 @@ pub fn previewed_command<'a>(
     lent: &'a [u8],
     index: u64,
 ) -> &'a [u8]
-    ensures { ShowsAt state store.now identity batch lent.now index (shown_bytes store.now lent.now) result.now }
+    ensures { ShowsAt state store.now identity batch.entry lent.now index (shown_bytes store.now lent.now) result.now }
 {
     match previewed_at(state, store, identity, batch, lent, index) {
         None => &store[..0],

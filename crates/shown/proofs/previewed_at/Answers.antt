@@ -1,11 +1,8 @@
 -- `previewed_at` meets its contract.
-use Prim.Native.Nat.{ℕ, ◌≤◌}
-use lib.ListN.{get_or}
-use Rattle.definition.specs.Table.{u64_max}
 use Rattle.readers.proofs.Answers.{few_held}
 use Rattle.readers.proofs.Owns.{owns}
-use Rattle.persistence.proofs.Answered.{told_refused}
-use Rattle.persistence.proofs.Tried.{kept, tried_few}
+use Rattle.persistence.proofs.Prepared.{Low}
+use Rattle.persistence.proofs.Tried.{kept}
 use Rattle.shown.proofs.Answers.{shows_unsound, shows_refused, shows_ready}
 use borrow.Author.Rules.{rules}
 use Rattle.shown.proofs.previewed_at.Goals as goal
@@ -26,20 +23,18 @@ pub returns-in-Err : goal.returns-in-Err
 returns-in-Err c =
     let a = c.args in
     let w = owns c.passes.ensures c.if-not-passes.false c.own_of-own.ensures in
-    let small : (n : ℕ) → get_or a.batch.entries.index n 0 ≤ u64_max = λ n. search rules in
-    shows_refused a.state a.store.now a.identity a.batch a.lent.now a.index _ w small _ c.try_batch-tried.ensures _ c.in-Err.is
+    let low : Low c.own_of-own.result.head a.batch = record { head = search (rules, c.own_of-own.type_inv); pointer = λ r e. search (rules, c.well_formed) } in
+    shows_refused a.state a.store.now a.identity a.batch a.lent.now a.index _ w low _ c.try_batch-tried.ensures _ c.in-Err.is
 
 pub show-requires : goal.show-requires
 show-requires c =
     let a = c.args in
-    let w = owns c.passes.ensures c.if-not-passes.false c.own_of-own.ensures in (
-      w.low,
-      tried_few a.state a.store.now a.identity a.batch a.lent.now _ (told_refused _ _ _ c.try_batch-tried.ensures c.in-Ok.is),
-    )
+    let w = owns c.passes.ensures c.if-not-passes.false c.own_of-own.ensures in
+    w.low
 
 pub returns-in-Ok : goal.returns-in-Ok
 returns-in-Ok c =
     let a = c.args in
     let w = owns c.passes.ensures c.if-not-passes.false c.own_of-own.ensures in
-    let small : (n : ℕ) → get_or a.batch.entries.index n 0 ≤ u64_max = λ n. search rules in
-    shows_ready a.state a.store.now a.identity a.batch a.lent.now a.index _ w small c.try_batch-tried.result c.try_batch-tried.ensures c.in-Ok.is c.show.result (c.show.ensures a.lent.now)
+    let low : Low c.own_of-own.result.head a.batch = record { head = search (rules, c.own_of-own.type_inv); pointer = λ r e. search (rules, c.well_formed) } in
+    shows_ready a.state a.store.now a.identity a.batch a.lent.now a.index _ w low c.try_batch-tried.result c.try_batch-tried.ensures c.in-Ok.is c.show.result (c.show.ensures a.lent.now)
