@@ -1,4 +1,2 @@
 pub mod Commit
-pub mod Listing
-pub mod Loading
 pub mod Prepares

@@ -1,3 +1,2 @@
 pub mod Commit
-pub mod Entries
 pub mod Batch
