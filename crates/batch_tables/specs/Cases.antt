@@ -1,6 +1,6 @@
 -- Computed tests of the lines that `batch` prints. Each is one declaration over a list.
 -- Assumes nothing.
-use Rattle.std.specs.Prelude.{ℕ, Bool, true, false, List, [], ◌∷◌, ◌++◌, replicate, T, None, Some, Ok, Err}
+use Rattle.std.specs.Prelude.{ℕ, Bool, true, false, List, [], ◌∷◌, ◌++◌, replicate, take, T, None, Some, Result, Ok, Err}
 use Prim.Native.Char.{code}
 use Prim.Native.String.{String, [] as empty, ◌∷◌ as ◌then◌}
 use Rattle.definition.specs.Table.{◌=?◌, u64_max, every, same_bytes}
@@ -14,7 +14,8 @@ use Rattle.codec.specs.declared.RaftWalRecord.TheVariants as W
 use Rattle.tables.specs.Tables.{digits_within, decimal, row}
 use Rattle.tables.specs.Model.{lines_to}
 use Rattle.persistence.specs.declared.PreparedRecord.{PreparedRecord}
-use Rattle.persistence.specs.declared.PreparedBatch.{PreparedBatch}
+use Rattle.arrayvec.specs.ArrayVec.{ArrayVec}
+use Rattle.ids.specs.declared.Refusal.{Refusal}
 use Rattle.batch_tables.specs.Lines.{hex_text, least_from, least_number, normal_fields, change_fields, entry_line, hard_state_line, pointer_line, refused_batch, journal_refused, shown_line, minimum_line}
 use Rattle.batch_tables.specs.Model.{no_record, prepared_text}
 
@@ -121,12 +122,12 @@ a_pointer =
     }
 
 -- records, as many as the count says
-ready : ℕ → List PreparedRecord → PreparedBatch
-ready count records = record { answer = (Ok tt); count = count; records = records }
+ready : ℕ → List PreparedRecord → Result (ArrayVec PreparedRecord) Refusal
+ready count records = Ok (record { items = take count records })
 
 answers : List Bool
 answers =
-    is (prepared_text (record { answer = Err F.CommitBeyondLog; count = 1; records = a_hard_state ∷ [] }) commands lent) "refused 49"
+    is (prepared_text (Err F.CommitBeyondLog) commands lent) "refused 49"
     ∷ same_bytes (prepared_text (ready 0 (a_hard_state ∷ [])) commands lent) []
     ∷ is (prepared_text (ready 1 (a_hard_state ∷ a_pointer ∷ [])) commands lent) "H 1 2 3 5 - 8"
     ∷ same_bytes

@@ -1,6 +1,6 @@
 -- The lines of what preparing answered. A command is a place and a length in the lent bytes; `commands` are those that were given.
 -- Assumes nothing.
-use Rattle.std.specs.Prelude.{ℕ, min, List, [], get_or, take, drop, Option, None, Some, Result, Ok, Err}
+use Rattle.std.specs.Prelude.{ℕ, List, [], length, get_or, take, drop, Option, None, Some, Result, Ok, Err}
 use Rattle.ids.specs.Identity.{identity_of}
 use Rattle.ids.specs.Refusal.{number_of}
 use Rattle.ids.specs.declared.Refusal.{Refusal}
@@ -10,9 +10,9 @@ use Rattle.codec.specs.declared.RaftLogEntryRecord.{RaftLogEntryRecord}
 use Rattle.codec.specs.declared.RaftWalRecord.{RaftWalRecord}
 use Rattle.codec.specs.declared.RaftWalRecord.TheVariants as W
 use Rattle.codec.specs.Records.{change_of, hard_state_of, pointer_of}
+use Rattle.arrayvec.specs.ArrayVec.{ArrayVec}
 use Rattle.tables.specs.Model.{lines_to}
 use Rattle.persistence.specs.declared.PreparedRecord.{PreparedRecord}
-use Rattle.persistence.specs.declared.PreparedBatch.{PreparedBatch}
 use Rattle.batch_tables.specs.Lines.{least_number, normal_fields, change_fields, entry_line, hard_state_line, pointer_line, refused_batch}
 use Rattle.ids.specs.declared.Refusal.{Refusal}
 
@@ -38,18 +38,15 @@ abbrev pub record_text : Option RaftWalRecord → List (List ℕ) → List ℕ �
 record_text None commands lent = []
 record_text (Some r) commands lent = raft_text r commands lent
 
--- What a read past the end of an array gives.
+-- What a read past the end of a list gives.
 abbrev pub no_record : PreparedRecord
 no_record = record { body = None }
 
--- The first `count` records, one after the other.
-abbrev pub record_texts : List PreparedRecord → ℕ → List (List ℕ) → List ℕ → List ℕ
-record_texts records count commands lent = lines_to count (λ i. record_text (get_or records i no_record).body commands lent)
+-- The records, one after the other.
+abbrev pub record_texts : List PreparedRecord → List (List ℕ) → List ℕ → List ℕ
+record_texts records commands lent = lines_to (length records) (λ i. record_text (get_or records i no_record).body commands lent)
 
--- A refusal, or the records, at most 34.
-abbrev pub answered : Result (Unit {0}) Refusal → List PreparedRecord → ℕ → List (List ℕ) → List ℕ → List ℕ
-answered (Ok _) records count commands lent = record_texts records count commands lent
-answered (Err why) records count commands lent = refused_batch (number_of why)
-
-unfoldable pub prepared_text : PreparedBatch → List (List ℕ) → List ℕ → List ℕ
-prepared_text p commands lent = answered p.answer p.records (min p.count 34) commands lent
+-- A refusal, or the records.
+unfoldable pub prepared_text : Result (ArrayVec PreparedRecord) Refusal → List (List ℕ) → List ℕ → List ℕ
+prepared_text (Ok l) commands lent = record_texts l.items commands lent
+prepared_text (Err why) commands lent = refused_batch (number_of why)

@@ -9,13 +9,13 @@ ghost use Rattle.view.specs.Meaning.{lsn_of};
 ghost use Rattle.text.specs.Record.{commands_in};
 ghost use Rattle.tables.specs.Tables.{row};
 ghost use Rattle.batch_tables.specs.Lines.{hex_glyph, hex_text, word_text, checksum_text, least_number, owner_text, normal_fields, change_letter, change_fields, hard_state_line, snapshot_text, pointer_line, journal_refused, source_word, command_text, shown_line, minimum_line};
-ghost use Rattle.batch_tables.specs.Model.{payload_fields, entry_text, raft_text, record_text, prepared_text, Given};
+ghost use Rattle.batch_tables.specs.Model.{payload_fields, entry_text, raft_text, record_text, record_texts, prepared_text, Given};
 
 use codec::{
     Checksum, ConfChangeKind, DurableRaftEntryPayload, RaftHardStateRecord, RaftLogEntryRecord,
     RaftSnapshotPointerRecord, RaftWalRecord,
 };
-use ids::{Lsn, RaftReplicaIdentity};
+use ids::{Lsn, RaftReplicaIdentity, Refusal};
 use persistence::{PreparedBatch, PreparedRecord};
 use std::marker::Model;
 use tables::Output;
@@ -233,29 +233,37 @@ fn put_record<'a>(out: &mut Output<65536>, r: PreparedRecord, given: &Commands<'
     }
 }
 
-// What preparing answered: a refusal, or the records in order, at most 34.
-#[tactic(auto, using(tables::proofs::Text::lines_step), unfolding(tables::specs::Tables::row, tables::specs::Model::lines_to, crate::specs::Model::prepared_text))]
+// The records in order.
+#[tactic(auto, using(tables::proofs::Text::lines_step), unfolding(tables::specs::Tables::row, tables::specs::Model::lines_to))]
+fn put_records<'a>(out: &mut Output<65536>, records: &[PreparedRecord], given: &Commands<'a>)
+    requires { (out.old ≡ []) × (length records.now ≤ 34) }
+    ensures { out.new ≡ record_texts records.now given.now.commands given.now.lent }
+{
+    for r in records {
+        put_record(out, *r, given);
+    }
+}
+
+// What preparing answered: a refusal, or the records in order.
+#[tactic(auto, unfolding(tables::specs::Tables::row, crate::specs::Model::prepared_text))]
 pub fn write_prepared(
-    prepared: PreparedBatch,
+    prepared: &Result<PreparedBatch, Refusal>,
     commands: usize,
     lens: &[u8],
     lent: &[u8],
     out: &mut Output<65536>,
 )
-    ensures { out.new ≡ prepared_text prepared (commands_in commands lens.now lent.now) lent.now }
+    ensures { out.new ≡ prepared_text prepared.now (commands_in commands lens.now lent.now) lent.now }
 {
     out.clear();
-    if let Err(why) = prepared.answer {
-        out.put_count(b"refused ", why.number() as usize);
-        return;
-    }
     let given = Commands {
         count: commands,
         lens,
         lent,
     };
-    for i in 0..prepared.count.min(34) {
-        put_record(out, prepared.records[i], &given);
+    match prepared {
+        Err(why) => out.put_count(b"refused ", why.number() as usize),
+        Ok(records) => put_records(out, records.as_slice(), &given),
     }
 }
 
