@@ -5,7 +5,7 @@
 
 ghost use Rattle.std.specs.Prelude.{◌<◌};
 
-use batches::{BatchEntries, RaftPersistenceBatch};
+use batches::{BatchEntry, RaftPersistenceBatch};
 use codec::{HardState, RaftWalRecord, WalRecord};
 use ids::Lsn;
 use recovery::observing;
@@ -37,17 +37,10 @@ fn kept(lent: &[u8], store: &mut [u8]) -> RecoveredRaftStorage {
     finishing::finish(t, store).state
 }
 
-fn batch(commit: u64) -> RaftPersistenceBatch {
+fn batch(entries: &[BatchEntry], commit: u64) -> RaftPersistenceBatch<'_> {
     RaftPersistenceBatch {
         snapshot: None,
-        entries: BatchEntries {
-            count: 32,
-            index: array::from_fn(|i| 33 + i as u64),
-            term: [1; 32],
-            kind: [0; 32],
-            first: [0; 32],
-            second: [32; 32],
-        },
+        entries,
         hard_state: Some(HardState {
             current_term: 2,
             voted_for: None,
@@ -62,12 +55,18 @@ fn prepared(rounds: u64, lent: &[u8], store: &mut [u8]) -> u64
 {
     let own = bench_records::identity(0);
     let t = kept(lent, store);
-    let pair = [batch(40), batch(41)];
+    let entries: [BatchEntry; 32] = array::from_fn(|i| BatchEntry {
+        index: 33 + i as u64,
+        term: 1,
+        payload: DurableRaftEntryPayload::Normal { place: 0, len: 32 },
+    });
+    let pair = [batch(&entries, 40), batch(&entries, 41)];
     let mut sum: u64 = 0;
     for k in 0..100 * rounds {
         let b = pair[(k % 2) as usize];
-        let d = persistence::prepare_batch(t, store, own, b, lent);
-        sum = bench_records::added(sum, d.count as u64);
+        if let Ok(records) = persistence::prepare_batch(t, store, own, b, lent) {
+            sum = bench_records::added(sum, records.len() as u64);
+        }
     }
     sum
 }
