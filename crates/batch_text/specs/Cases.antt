@@ -1,14 +1,15 @@
 -- Computed tests of the lines of a batch, and of which may stand where. Each is one declaration over a list.
 -- Assumes nothing.
-use Rattle.std.specs.Prelude.{ℕ, Bool, true, false, not, ◌&&◌, List, [], ◌∷◌, get_or, replicate, T, Option, None, Some, unwrap_or}
+use Rattle.std.specs.Prelude.{ℕ, Bool, true, false, not, ◌&&◌, List, [], ◌∷◌, length, map, get_or, replicate, T, Option, None, Some, unwrap_or}
 use Prim.Native.Char.{code}
 use Prim.Native.String.{String, [] as empty, ◌∷◌ as ◌then◌}
 use Rattle.definition.specs.Table.{◌=?◌, every, u64_max, is_some}
 use Rattle.definition.specs.Records.{Identity, same, addLearner, promoteLearner, removeReplica, Payload, normal, inside, configuration, same_payload, Checksum, same_pointer}
 use Rattle.text.specs.Text.{numeral_from, hex_digit, hex_from, fields_from}
 use Rattle.codec.specs.declared.DurableRaftEntryPayload.TheVariants as Y
+use Rattle.batches.specs.declared.BatchEntry.{BatchEntry}
 use Rattle.batch_text.specs.Text.{Said, pointer, entry, hard_state, show, finish_line, batch_line, fields_say, line_says}
-use Rattle.batch_text.specs.Order.{no_batch, with_entry, add_pointer, add_entry, add_hard_state, add_show, added}
+use Rattle.batch_text.specs.Order.{given_of, no_batch, add_pointer, add_entry, add_hard_state, add_show, added}
 use Rattle.batch_text.specs.declared.BatchLine.{BatchLine}
 use Rattle.batch_text.specs.declared.BatchLine.TheVariants as L
 use Rattle.batch_text.specs.declared.Given.{Given}
@@ -223,6 +224,10 @@ after g (l ∷ ls) = after (unwrap_or (added g l) g) ls
 entries : ℕ → List BatchLine
 entries n = replicate n (an_entry 9)
 
+-- the index of the entry at a place, 0 where there is none
+index_at : ℕ → Given → ℕ
+index_at i g = get_or (map (λ (e : BatchEntry). e.index) g.entries) i 0
+
 orders : List Bool
 orders =
     takes no_batch []
@@ -238,18 +243,20 @@ orders =
     ∷ not (takes no_batch (L.Show 1 ∷ an_entry 6 ∷ []))
     ∷ not (takes no_batch (a_hard_state ∷ a_hard_state ∷ []))
     ∷ not (takes no_batch (L.Show 1 ∷ a_hard_state ∷ []))
-    ∷ takes (record { batch = no_batch.batch; shows = 4095 }) (L.Show 1 ∷ [])
-    ∷ not (takes (record { batch = no_batch.batch; shows = 4096 }) (L.Show 1 ∷ []))
-    -- entries at their places; past place 32 they are only counted
-    ∷ ((after no_batch (an_entry 6 ∷ an_entry 7 ∷ [])).batch.entries.count =? 2)
-    ∷ (get_or (after no_batch (an_entry 6 ∷ an_entry 7 ∷ [])).batch.entries.index 0 0 =? 6)
-    ∷ (get_or (after no_batch (an_entry 6 ∷ an_entry 7 ∷ [])).batch.entries.index 1 0 =? 7)
-    ∷ (get_or (after no_batch (an_entry 6 ∷ an_entry 7 ∷ [])).batch.entries.index 2 0 =? 0)
-    ∷ ((after no_batch (entries 40)).batch.entries.count =? 40)
-    ∷ (get_or (after no_batch (entries 40)).batch.entries.index 31 0 =? 9)
+    ∷ takes (given_of None [] None 4095) (L.Show 1 ∷ [])
+    ∷ not (takes (given_of None [] None 4096) (L.Show 1 ∷ []))
+    -- entries at their places
+    ∷ (length (after no_batch (an_entry 6 ∷ an_entry 7 ∷ [])).entries =? 2)
+    ∷ (index_at 0 (after no_batch (an_entry 6 ∷ an_entry 7 ∷ [])) =? 6)
+    ∷ (index_at 1 (after no_batch (an_entry 6 ∷ an_entry 7 ∷ [])) =? 7)
+    ∷ (index_at 2 (after no_batch (an_entry 6 ∷ an_entry 7 ∷ [])) =? 0)
+    ∷ (length (after no_batch (entries 40)).entries =? 40)
+    ∷ (index_at 31 (after no_batch (entries 40)) =? 9)
+    ∷ (index_at 39 (after no_batch (entries 40)) =? 9)
+    ∷ (index_at 40 (after no_batch (entries 40)) =? 0)
     ∷ ((after no_batch (L.Show 4 ∷ L.Show 4 ∷ [])).shows =? 2)
     ∷ []
 
 each_order : T (every (λ b. b) orders)
-unfolding a_pointer an_entry a_hard_state takes after entries orders with_entry add_pointer add_entry add_hard_state add_show
+unfolding a_pointer an_entry a_hard_state takes after entries index_at orders add_pointer add_entry add_hard_state add_show
 each_order = tt

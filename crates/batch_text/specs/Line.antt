@@ -5,18 +5,15 @@ use Rattle.definition.specs.Table.{◌=?◌, u64_max}
 use Rattle.definition.specs.Records.{Identity, LogEntry}
 use Rattle.ids.specs.declared.RaftReplicaIdentity.{RaftReplicaIdentity}
 use Rattle.ids.specs.Identity.{identity_of}
-use Rattle.codec.specs.declared.ConfChangeKind.{ConfChangeKind}
-use Rattle.codec.specs.declared.ConfChangeKind.TheVariants as K
 use Rattle.codec.specs.declared.DurableRaftEntryPayload.{DurableRaftEntryPayload}
-use Rattle.codec.specs.declared.DurableRaftEntryPayload.TheVariants as Y
 use Rattle.codec.specs.declared.HardState.{HardState}
 use Rattle.codec.specs.declared.RaftSnapshotPointerRecord.{RaftSnapshotPointerRecord}
 use Rattle.codec.specs.Records as R
 use Rattle.text.specs.Field.{number_on, word_field, letter_field, vote_on}
 use Rattle.text.specs.Record.{field_at, identity_from, hard_state_from, pointer_on, payload_on, line_header}
 use Rattle.text.specs.declared.line.Line.{Line}
+use Rattle.batches.specs.declared.BatchEntry.{BatchEntry}
 use Rattle.batch_text.specs.Text.{finish_word, batch_word, show_word, Said, pointer, entry, hard_state, show}
-use Rattle.batch_text.specs.declared.BatchEntry.{BatchEntry}
 use Rattle.batch_text.specs.declared.BatchLine.{BatchLine}
 use Rattle.batch_text.specs.declared.BatchLine.TheVariants as L
 
@@ -57,24 +54,6 @@ line_on l lens =
     else (if letter_field (field_at l 0) 72 then option_map L.HardState (hard_state_on l)
     else (if letter_field (field_at l 0) 69 then option_map L.Entry (entry_on l lens)
     else option_map L.Show (line_header l show_word u64_max)))
-
--- a payload's three numbers in BatchEntries
-abbrev pub change_number : ConfChangeKind → ℕ
-change_number K.AddLearner = 1
-change_number K.PromoteLearner = 2
-change_number K.RemoveReplica = 3
-
-abbrev pub kind_of : DurableRaftEntryPayload → ℕ
-kind_of (Y.Normal place len) = 0
-kind_of (Y.Configuration kind version replica) = change_number kind
-
-abbrev pub first_of : DurableRaftEntryPayload → ℕ
-first_of (Y.Normal place len) = place
-first_of (Y.Configuration kind version replica) = version
-
-abbrev pub second_of : DurableRaftEntryPayload → ℕ
-second_of (Y.Normal place len) = len
-second_of (Y.Configuration kind version replica) = replica.0
 
 -- ---- what they mean
 

@@ -1,14 +1,15 @@
 // The lines behind a journal that say a batch: whether the recovery is finished first, whose batch it is, at most one pointer, its
 // entries, at most one hard state, and the indices whose commands are to be shown.
-#![tactic(auto, unfolding(crate::specs::Line::finish_on, crate::specs::Line::identity_on, crate::specs::Line::line_on, crate::specs::Order::with_entry, crate::specs::Order::add_pointer, crate::specs::Order::add_entry, crate::specs::Order::add_hard_state, crate::specs::Order::add_show))]
+#![tactic(auto, unfolding(crate::specs::Line::finish_on, crate::specs::Line::identity_on, crate::specs::Line::line_on, crate::specs::Order::add_pointer, crate::specs::Order::add_entry, crate::specs::Order::add_hard_state, crate::specs::Order::add_show))]
 
-ghost use Rattle.std.specs.Prelude.{◌≡◌, ◌<◌};
-ghost use Rattle.batch_text.specs.Line.{finish_on, identity_on, snapshot_on, hard_state_on, entry_on, change_number, kind_of, first_of, second_of, line_on};
-ghost use Rattle.batch_text.specs.Order.{no_batch, is_open, with_entry, add_pointer, add_entry, add_hard_state, add_show, added};
+ghost use Rattle.std.specs.Prelude.{◌≡◌, ◌<◌, [], ◌∷◌, ◌++◌, length};
+ghost use Rattle.batch_text.specs.Line.{finish_on, identity_on, snapshot_on, hard_state_on, entry_on, line_on};
+ghost use Rattle.batch_text.specs.Order.{no_batch, is_open, add_pointer, add_entry, add_hard_state, add_show, added};
 
-use batches::{BatchEntries, RaftPersistenceBatch};
-use codec::{ConfChangeKind, DurableRaftEntryPayload, HardState, RaftSnapshotPointerRecord};
+use batches::{BatchEntry, RaftPersistenceBatch};
+use codec::{DurableRaftEntryPayload, HardState, RaftSnapshotPointerRecord};
 use ids::RaftReplicaIdentity;
+use std::marker::Model;
 use text::line::Line;
 use text::record;
 
@@ -17,14 +18,6 @@ pub const MAX_ENTRY_LINES: usize = 64;
 
 // The most lines `show`, a limit of our own: there is no heap to keep any number of them. The next one cannot be read.
 pub const MAX_SHOWS: usize = 4096;
-
-// An entry of a batch.
-#[derive(Clone, Copy, Debug, PartialEq, Eq)]
-pub struct BatchEntry {
-    pub index: u64,
-    pub term: u64,
-    pub payload: DurableRaftEntryPayload,
-}
 
 // A line behind the batch's first one.
 #[derive(Clone, Copy, Debug, PartialEq, Eq)]
@@ -35,10 +28,61 @@ pub enum BatchLine {
     Show(u64),
 }
 
+// The entries of the lines so far. An ArrayVec, which has the same list, asks for a Default of an entry, and there is none.
+#[derive(Drop)]
+pub struct EntryList {
+    list: [BatchEntry; 64],
+    count: usize,
+}
+
+impl Model for EntryList {
+    ghost use Rattle.std.specs.Prelude.{◌≤◌, List, take};
+    ghost use Rattle.batches.specs.declared.BatchEntry.{BatchEntry};
+
+    ghost Value = { List BatchEntry };
+
+    ghost view = { λ es. take es.count es.list };
+
+    ghost invariant = { λ es. es.count ≤ 64 };
+}
+
+impl EntryList {
+    fn none() -> EntryList
+        ensures { result ≡ [] }
+    {
+        let blank = BatchEntry {
+            index: 0,
+            term: 0,
+            payload: DurableRaftEntryPayload::Normal { place: 0, len: 0 },
+        };
+        EntryList {
+            list: [blank; 64],
+            count: 0,
+        }
+    }
+
+    // One more, behind the others.
+    fn push(&mut self, e: BatchEntry)
+        requires { length self.old < 64 }
+        ensures { self.new ≡ self.old ++ e ∷ [] }
+    {
+        self.list[self.count] = e;
+        self.count += 1;
+    }
+
+    fn as_slice(&self) -> &[BatchEntry]
+        ensures { result.now ≡ self.now }
+    {
+        &self.list[..self.count]
+    }
+}
+
 // A batch as far as its lines were read, and how many lines `show` there were.
-#[derive(Clone, Copy)]
+#[derive(Drop)]
 pub struct Given {
-    pub batch: RaftPersistenceBatch,
+    pub snapshot: Option<RaftSnapshotPointerRecord>,
+    pub entries: EntryList,
+    pub hard_state: Option<HardState>,
     pub shows: usize,
 }
 
@@ -114,70 +158,29 @@ pub fn batch_line(line: &Line, lens: &[u8]) -> Option<BatchLine>
     }
 }
 
-// The number of a change, as BatchEntries has it.
-fn change_number(kind: ConfChangeKind) -> u64
-    ensures { result ≡ change_number kind }
-{
-    match kind {
-        ConfChangeKind::AddLearner => 1,
-        ConfChangeKind::PromoteLearner => 2,
-        ConfChangeKind::RemoveReplica => 3,
-    }
-}
-
-// The three numbers of a payload, as BatchEntries has them.
-fn numbers_of(payload: DurableRaftEntryPayload) -> (u64, u64, u64)
-    ensures { result ≡ (kind_of payload, first_of payload, second_of payload) }
-{
-    match payload {
-        DurableRaftEntryPayload::Normal { place, len } => (0, place as u64, len as u64),
-        DurableRaftEntryPayload::Configuration {
-            kind,
-            expected_version,
-            replica_id,
-        } => (change_number(kind), expected_version, replica_id.0),
-    }
-}
-
-// One entry more: past place 32 it is only counted.
-fn with_entry(entries: BatchEntries, e: BatchEntry) -> BatchEntries
-    requires { entries.count < 64 }
-    ensures { result ≡ with_entry entries e }
-{
-    let mut t = entries;
-    let at = entries.count;
-    t.count = at + 1;
-    if 32 <= at {
-        return t;
-    }
-    let (kind, first, second) = numbers_of(e.payload);
-    t.index[at] = e.index;
-    t.term[at] = e.term;
-    t.kind[at] = kind;
-    t.first[at] = first;
-    t.second[at] = second;
-    t
-}
-
 impl Given {
     // No line yet.
     pub fn none() -> Given
         ensures { result ≡ no_batch }
     {
         Given {
-            batch: RaftPersistenceBatch {
-                snapshot: None,
-                entries: BatchEntries {
-                    count: 0,
-                    index: [0; 32],
-                    term: [0; 32],
-                    kind: [0; 32],
-                    first: [0; 32],
-                    second: [0; 32],
-                },
-                hard_state: None,
-            },
+            snapshot: None,
+            entries: EntryList::none(),
+            hard_state: None,
             shows: 0,
+        }
+    }
+
+    // The batch that the lines say.
+    pub fn batch(&self) -> RaftPersistenceBatch<'_>
+        ensures snapshot { result.snapshot ≡ self.now.snapshot }
+        ensures entries { result.entries.now ≡ self.now.entries }
+        ensures hard_state { result.hard_state ≡ self.now.hard_state }
+    {
+        RaftPersistenceBatch {
+            snapshot: self.snapshot,
+            entries: self.entries.as_slice(),
+            hard_state: self.hard_state,
         }
     }
 
@@ -185,62 +188,51 @@ impl Given {
     fn is_open(&self) -> bool
         ensures { result ≡ is_open self.now }
     {
-        self.shows == 0 && self.batch.hard_state.is_none()
+        self.shows == 0 && self.hard_state.is_none()
     }
 
     // A pointer stands before all else.
-    fn with_pointer(self, p: RaftSnapshotPointerRecord) -> Option<Given>
+    fn with_pointer(mut self, p: RaftSnapshotPointerRecord) -> Option<Given>
         ensures { result ≡ add_pointer self p }
     {
-        if !self.is_open() || self.batch.entries.count != 0 || self.batch.snapshot.is_some() {
+        if !self.is_open() || !self.entries.as_slice().is_empty() || self.snapshot.is_some() {
             return None;
         }
-        let batch = RaftPersistenceBatch {
-            snapshot: Some(p),
-            ..self.batch
-        };
-        Some(Given { batch, ..self })
+        self.snapshot = Some(p);
+        Some(self)
     }
 
     // Entries stand before the hard state, at most 64.
-    fn with_entry(self, e: BatchEntry) -> Option<Given>
+    fn with_entry(mut self, e: BatchEntry) -> Option<Given>
         ensures { result ≡ add_entry self e }
     {
-        if !self.is_open() || MAX_ENTRY_LINES <= self.batch.entries.count {
+        if !self.is_open() || MAX_ENTRY_LINES <= self.entries.as_slice().len() {
             return None;
         }
-        let batch = RaftPersistenceBatch {
-            entries: with_entry(self.batch.entries, e),
-            ..self.batch
-        };
-        Some(Given { batch, ..self })
+        self.entries.push(e);
+        Some(self)
     }
 
     // One hard state, before what is to be shown.
-    fn with_hard_state(self, h: HardState) -> Option<Given>
+    fn with_hard_state(mut self, h: HardState) -> Option<Given>
         ensures { result ≡ add_hard_state self h }
     {
         if !self.is_open() {
             return None;
         }
-        let batch = RaftPersistenceBatch {
-            hard_state: Some(h),
-            ..self.batch
-        };
-        Some(Given { batch, ..self })
+        self.hard_state = Some(h);
+        Some(self)
     }
 
     // One command more to be shown.
-    fn with_show(self) -> Option<Given>
+    fn with_show(mut self) -> Option<Given>
         ensures { result ≡ add_show self }
     {
         if MAX_SHOWS <= self.shows {
             return None;
         }
-        Some(Given {
-            shows: self.shows + 1,
-            ..self
-        })
+        self.shows += 1;
+        Some(self)
     }
 
     // One line more, where it may stand. The index of a `show` is the caller's to keep.

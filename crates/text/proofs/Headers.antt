@@ -1,11 +1,10 @@
 -- What the code reads off a whole header line is the number that it says.
 -- Assumes nothing.
-use mathlib.Core.Path.{◌≡◌, refl}
-use mathlib.Core.Bool.{Bool, true, false, ◌&&◌}
+use mathlib.Core.Path.{◌≡◌}
+use mathlib.Core.Bool.{◌&&◌}
 use mathlib.Core.List.{List, [], ◌∷◌, ◌++◌}
 use Prim.Native.Nat.{ℕ, ◌≤◌}
 use native.Mathlib.Omega.{arith}
-use borrow.Author.Tests.{eqb-true}
 use lib.ListN.{length}
 use Rattle.std.specs.Prelude.{if◌then◌else◌, None}
 use Rattle.definition.specs.Table.{◌=?◌, u64_max, same_bytes}
@@ -16,7 +15,7 @@ use Rattle.text.specs.declared.line.Line.{Line}
 use Rattle.text.proofs.Numbers.{number_is, narrow}
 use Rattle.text.proofs.Words.{word_is}
 use Rattle.text.proofs.Whole.{Holds, ended}
-use Rattle.text.proofs.Records.{reads, count_is, other}
+use Rattle.text.proofs.Forms.{by_count}
 
 module _ (l : Line) (done : List (List ℕ)) (f : List ℕ) (h : Holds l done f) (word : List ℕ) (most : ℕ) where
   abbrev all : List (List ℕ)
@@ -25,16 +24,10 @@ module _ (l : Line) (done : List (List ℕ)) (f : List ℕ) (h : Holds l done f)
   pub header_fields : length word ≤ 16 → most ≤ u64_max
       → line_header l word most ≡ (if length all =? 2 && same_bytes (nth 0 all) word then number most (nth 1 all) else None)
   unfolding line_header
-  header_fields w k = go (length done =? 1) refl
-    where
-      c : (l.count =? 1) ≡ (length all =? 2)
-      c = count_is l done f h 1 (omega arith)
-
-      go : (x : Bool) → (length done =? 1) ≡ x → line_header l word most ≡ (if length all =? 2 && same_bytes (nth 0 all) word then number most (nth 1 all) else None)
-      go false p = rw (c, other l done f h 1 p)
-      go true p =
-          let r = reads l done f h 1 (eqb-true (length done) 1 p) (omega arith) in
-          rw (c, r.at 0 (omega arith), word_is (nth 0 all) word w, r.last, number_is (nth 1 all), narrow most k (numeral (nth 1 all)))
+  header_fields w k =
+      by_count l done f h 1 (omega arith)
+      (λ c m r. rw (c, m, r.at 0 (omega arith), word_is (nth 0 all) word w, r.last, number_is (nth 1 all), narrow most k (numeral (nth 1 all))))
+      (λ c m. rw (c, m))
 
 -- THE LAW of a header: a word of at most 16 bytes, and a number up to `most`
 pub header_is : (s word : List ℕ) (most : ℕ) → length word ≤ 16 → most ≤ u64_max → line_header (fed blank_line s) word most ≡ header_line word most s

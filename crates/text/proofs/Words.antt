@@ -1,7 +1,7 @@
 -- A word of at most 16 bytes as the code keeps it, and its bytes.
 -- Assumes nothing.
 use mathlib.Core.Path.{◌≡◌, refl, sym, ap, ◌∙◌}
-use mathlib.Core.Bool.{Bool, true, false, ◌&&◌, and-false}
+use mathlib.Core.Bool.{Bool, true, false, ◌&&◌}
 use mathlib.Core.List.{List, [], ◌∷◌, ◌++◌}
 use Prim.Native.Nat.{ℕ, suc, ◌+◌, ◌≤◌}
 use native.Mathlib.Numerals.{add-one}
@@ -13,6 +13,7 @@ use lib.Seq.{sets, sets-eq, take_all}
 use Rattle.std.proofs.lemmas.List.{take-append-le}
 use Rattle.std.specs.Prelude.{if◌then◌else◌}
 use Rattle.definition.specs.Table.{◌=?◌, ◌<?◌, same_bytes}
+use Rattle.definition.proofs.Store.{same_bytes_eq}
 use Rattle.text.specs.Text.{is_letter}
 use Rattle.text.specs.Field.{blank_field, pushed_field, fed_field, word_field, letter_field}
 use Rattle.text.specs.declared.field.Field.{Field}
@@ -49,11 +50,9 @@ compared (x ∷ w) (y ∷ s) = λ i. eqb-comm i && compared w s i
         go true p = p ∙ sym (eq-eqb y x (sym (eqb-true x y p)))
         go false p = p ∙ sym (ne_eqb y x (λ e. eqb-false x y p (sym e)))
 
-length_same : (s w : List ℕ) → (length s ≡ length w → ⊥) → same_bytes s w ≡ false
-length_same [] [] n = absurd (n refl)
-length_same [] (y ∷ w) n = refl
-length_same (x ∷ s) [] n = refl
-length_same (x ∷ s) (y ∷ w) n = rw (length_same s w (λ e. n (ap suc e))) (and-false (x =? y))
+-- a field is not two words
+pub other_word : (s u v : List ℕ) → same_bytes u v ≡ false → same_bytes s u ≡ true → same_bytes s v ≡ false
+other_word s u v d e = rw (same_bytes_eq s u e) d
 
 -- THE LAW of a word
 pub word_is : (s w : List ℕ) → length w ≤ 16 → word_field (field_of s) w ≡ same_bytes s w
@@ -64,7 +63,11 @@ word_is s w h = go (length s =? length w) refl
         let n : length w ≡ length s = sym (eqb-true (length s) (length w) e) in
         let t : take (length w) (field_of s).word ≡ s = rw n (word_bytes s (omega arith)) in
         rw (len_is s (length w) h, e, t) (compared w s)
-    go false e = rw (len_is s (length w) h, e) (sym (length_same s w (eqb-false (length s) (length w) e)))
+    go false e = rw (len_is s (length w) h, e) (sym (unlike (same_bytes s w) refl))
+      where
+        unlike : (x : Bool) → same_bytes s w ≡ x → x ≡ false
+        unlike true p = absurd (eqb-false (length s) (length w) e (ap length (same_bytes_eq s w p)))
+        unlike false p = refl
 
 pub letter_is : (s : List ℕ) (b : ℕ) → letter_field (field_of s) b ≡ is_letter s b
 letter_is s b = word_is s (b ∷ []) (omega arith)
