@@ -6,7 +6,7 @@
 ghost use Rattle.std.specs.Prelude.{◌<◌};
 
 use batches::{BatchEntry, RaftPersistenceBatch};
-use codec::{HardState, RaftWalRecord, WalRecord};
+use codec::{DurableRaftEntryPayload, HardState, RaftWalRecord, WalRecord};
 use ids::Lsn;
 use recovery::observing;
 use std::io::Read;
