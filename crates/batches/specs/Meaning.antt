@@ -10,6 +10,10 @@ use Rattle.codec.specs.Records.{payload_of, maybe_hard_state_of, maybe_pointer_o
 use Rattle.batches.specs.declared.BatchEntry.{BatchEntry}
 use Rattle.batches.specs.declared.RaftPersistenceBatch.{RaftPersistenceBatch}
 
+-- The blank entry, which a read past the end of a list gives too.
+abbrev pub blank : BatchEntry
+blank = record { index = 0; term = 0; payload = Y.Normal 0 0 }
+
 -- Where a command begins in the lent bytes. Of a change it is its version, at which nothing looks.
 abbrev pub from_of : DurableRaftEntryPayload → ℕ
 from_of (Y.Normal place len) = place

@@ -25,8 +25,7 @@ use Rattle.batches.specs.declared.BatchEntry.{BatchEntry}
 use Rattle.preview.specs.declared.Extended.{Extended}
 use Rattle.preview.specs.declared.Preview.{Preview}
 use Rattle.batches.specs.Checks.{entry_form_rows}
-use Rattle.batches.specs.Meaning.{record_of}
-use Rattle.batches.proofs.Entries.{blank}
+use Rattle.batches.specs.Meaning.{blank, record_of}
 use Rattle.preview.specs.Preview.{holds_at, within, spot_in, spot_of, Ran, ran_of, ran, taken_at, formed_by, entry_ran, onward, extend_over, Sits, Takes}
 use Rattle.preview.specs.Extends.{Next}
 use Rattle.preview.proofs.Supplied.{entry_next}

@@ -10,8 +10,7 @@ use Rattle.std.proofs.lemmas.List.{map_more}
 use Rattle.definition.specs.Table.{◌=?◌, is_some}
 use Rattle.definition.specs.Batch.{BatchEntry, supplied}
 use Rattle.batches.specs.declared.BatchEntry as E
-use Rattle.batches.proofs.Entries.{blank}
-use Rattle.batches.specs.Meaning.{from_of, entry_of, entries_of}
+use Rattle.batches.specs.Meaning.{blank, from_of, entry_of, entries_of}
 
 -- The latest of some entries and one more.
 supplied_last : (x : ℕ) (es : List BatchEntry) (e : BatchEntry) → supplied x (es ++ (e ∷ [])) ≡ (if e.log_entry.index =? x then Some e.from else supplied x es)
