@@ -2,7 +2,7 @@
 -- Assumes nothing.
 use Rattle.std.specs.Prelude.{ℕ, Bool, true, false, ◌&&◌, List, if◌then◌else◌, Option, None, Some, option_map, option_and_then}
 use Rattle.definition.specs.Table.{◌=?◌, u64_max}
-use Rattle.definition.specs.Records.{Identity, LogEntry}
+use Rattle.definition.specs.Records.{Identity}
 use Rattle.ids.specs.declared.RaftReplicaIdentity.{RaftReplicaIdentity}
 use Rattle.ids.specs.Identity.{identity_of}
 use Rattle.codec.specs.declared.DurableRaftEntryPayload.{DurableRaftEntryPayload}
@@ -13,6 +13,7 @@ use Rattle.text.specs.Field.{number_on, word_field, letter_field, vote_on}
 use Rattle.text.specs.Record.{field_at, identity_from, hard_state_from, pointer_on, payload_on, line_header}
 use Rattle.text.specs.declared.line.Line.{Line}
 use Rattle.batches.specs.declared.BatchEntry.{BatchEntry}
+use Rattle.batches.specs.Meaning.{entry_of}
 use Rattle.batch_text.specs.Text.{finish_word, batch_word, show_word, Said, pointer, entry, hard_state, show}
 use Rattle.batch_text.specs.declared.BatchLine.{BatchLine}
 use Rattle.batch_text.specs.declared.BatchLine.TheVariants as L
@@ -66,12 +67,9 @@ maybe_finish_of o = option_map finish_number o
 abbrev pub maybe_identity_of : Option RaftReplicaIdentity → Option Identity
 maybe_identity_of o = option_map identity_of o
 
-abbrev pub log_entry_of : BatchEntry → List ℕ → LogEntry
-log_entry_of e lent = record { index = e.index; term = e.term; payload = R.payload_of e.payload lent }
-
 abbrev pub said_of : BatchLine → List ℕ → Said
 said_of (L.Pointer p) lent = pointer (R.pointer_record_of p)
-said_of (L.Entry e) lent = entry (log_entry_of e lent)
+said_of (L.Entry e) lent = entry (entry_of lent e).log_entry
 said_of (L.HardState h) lent = hard_state (R.hard_state_of h)
 said_of (L.Show n) lent = show n
 

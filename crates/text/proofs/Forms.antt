@@ -75,8 +75,8 @@ hard_state_said : {B : Type 0} (s : D.HardState → B) (x : Bool) (t : Option �
 hard_state_said s x t d o c = grind arith
 
 -- what is made of a pointer, by what its fields say
-abbrev pub pointer_if : {B : Type 0} → (PointerRecord → B) → Bool → Option ℕ → Option ℕ → Option ℕ → Option ℕ → Option ℕ → Option ℕ → Option ℕ → Option ℕ → Option ℕ → Bool → D.Checksum → Option B
-pointer_if s x v g r d i t p z e y m =
+abbrev pub of_pointer : {B : Type 0} → (PointerRecord → B) → Bool → Option ℕ → Option ℕ → Option ℕ → Option ℕ → Option ℕ → Option ℕ → Option ℕ → Option ℕ → Option ℕ → Bool → D.Checksum → Option B
+of_pointer s x v g r d i t p z e y m =
     if x && is_some v && is_some g && is_some r && (is_some d && is_some i && is_some t && is_some p && is_some z && is_some e && y)
     then Some (s (record {
       identity = record { group = of g; replica = of r };
@@ -95,7 +95,7 @@ pointer_if s x v g r d i t p z e y m =
 
 pointer_said : {B : Type 0} (s : PointerRecord → B) (x : Bool) (v g r d i t p z e : Option ℕ) (y : Bool) (m : Checksum)
     → (if x then option_map (λ q. s (pointer_record_of q)) (pointer_from v (identity_from g r) d i t p z e (if y then Some m else None)) else None)
-    ≡ pointer_if s x v g r d i t p z e y (checksum_of m)
+    ≡ of_pointer s x v g r d i t p z e y (checksum_of m)
 pointer_said s x v g r d i t p z e y m = grind arith
 
 command_said : (t : Bool) (o : Option ℕ) (ls lent : List ℕ) (cs : List (List ℕ)) → ((n : ℕ) → maybe_payload_of (command_at n ls) lent ≡ command cs n)
@@ -130,7 +130,7 @@ module _ {l : Line} {fs : List (List ℕ)} {B : Type 0} where
 
   pub pointer_is : (s : PointerRecord → B) (x : Bool) (k : ℕ) → 1 ≤ k → Reads l fs (k + 9)
       → (if x then option_map (λ q. s (pointer_record_of q)) (pointer_on l k) else None)
-      ≡ pointer_if s x (number u32_max (nth k fs)) (number u64_max (nth (k + 1) fs)) (number u64_max (nth (k + 2) fs)) (number u64_max (nth (k + 3) fs))
+      ≡ of_pointer s x (number u32_max (nth k fs)) (number u64_max (nth (k + 1) fs)) (number u64_max (nth (k + 2) fs)) (number u64_max (nth (k + 3) fs))
       (number u64_max (nth (k + 4) fs)) (number u64_max (nth (k + 5) fs)) (number u64_max (nth (k + 6) fs)) (number u64_max (nth (k + 7) fs))
       (number u64_max (nth (k + 8) fs)) (is_checksum (nth (k + 9) fs)) (checksum (nth (k + 9) fs))
   unfolding pointer_on
