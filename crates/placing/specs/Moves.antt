@@ -1,15 +1,11 @@
 -- The moves within a state's arrays, and what each asks.
 -- Assumes nothing.
 use Rattle.std.specs.Prelude.{List, ℕ, ◌<◌, ◌≤◌}
-use Rattle.view.specs.declared.Header.{Header}
 use Rattle.view.specs.declared.RecoveredRaftLogEntry.{RecoveredRaftLogEntry}
 use Rattle.storage.specs.declared.RecoveredRaftStorage.{RecoveredRaftStorage}
 use Rattle.storage.specs.Meaning.{Linked}
 
--- Other headers, other entries.
-abbrev pub with_heads : RecoveredRaftStorage → List Header → RecoveredRaftStorage
-with_heads s hs = record { heads = hs; entries = s.entries; held = s.held; scan = s.scan }
-
+-- Other entries.
 abbrev pub with_entries : RecoveredRaftStorage → List RecoveredRaftLogEntry → RecoveredRaftStorage
 with_entries s es = record { heads = s.heads; entries = es; held = s.held; scan = s.scan }
 
