@@ -4,7 +4,7 @@
 ghost use Rattle.std.specs.Prelude.{◌≡◌};
 ghost use Rattle.view.specs.Model.{empty_header};
 ghost use Rattle.storage.specs.Model.{opened, opened_store};
-ghost use Rattle.placing.specs.Moves.{Opens};
+ghost use Rattle.placing.specs.Opens.{Opens};
 
 use ids::RaftReplicaIdentity;
 use storage::RecoveredRaftStorage;

@@ -12,9 +12,7 @@ use Rattle.view.specs.Decisions.{entry_answer, hard_state_rows_of, pointer_rows_
 use Rattle.view.specs.Model.{with_hard_state, with_pointer, covered_by, dropped_bytes}
 use Rattle.replay.specs.Plan.{answer_of, identity_in, index_of, look_of, existing_in, prior_in, held_term_in, Plan, planned, entry_plan, unless_row, plan_of, Holds, Settleable}
 use Rattle.storage.specs.Model.{head_at, bytes_in, scan_next, scanned_only, with_head, changed_store}
-use Rattle.storage.specs.Finding.{found_in, found_at}
-use Rattle.storage.specs.Place.{owners_of}
-use Rattle.storage.proofs.Place.{owners_set}
+use Rattle.storage.specs.Finding.{found_at}
 use Rattle.storage.proofs.Finding.{Told, found_told}
 use Rattle.routing.specs.Observe.{Stepped, Ran, only_scanned, moved_entries, written, plan_at, settled_at}
 use Rattle.routing.proofs.Stepped.{owner_is, Drops, plan_drops}
@@ -33,7 +31,7 @@ use Rattle.definition.specs.Two.{fits}
 use Rattle.definition.proofs.Laws.{clear}
 use Rattle.ids.specs.declared.Lsn.{Lsn}
 use Rattle.store.specs.Splice.{part, splice}
-use Rattle.store.proofs.Part.{length_part, get_d_part, length_splice}
+use Rattle.store.proofs.Part.{length_part, get_d_part}
 use Rattle.codec.specs.declared.RaftLogEntryRecord.{RaftLogEntryRecord}
 use Rattle.codec.specs.declared.RaftWalRecord.{RaftWalRecord}
 use Rattle.codec.specs.declared.RaftWalRecord.TheVariants as W
@@ -46,7 +44,6 @@ use Rattle.view.specs.Readers.{place_of}
 use Rattle.view.proofs.Readers.{Held, held_at_lem}
 use Rattle.replay.specs.declared.Change.{Change}
 use Rattle.replay.proofs.Settled.{look_held}
-use Rattle.replay.proofs.Written.{look_below}
 use Rattle.storage.specs.declared.Scan.{Scan}
 use Rattle.storage.specs.declared.RecoveredRaftStorage.{RecoveredRaftStorage}
 use Rattle.storage.specs.Meaning.{Linked}

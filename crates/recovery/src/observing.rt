@@ -180,14 +180,8 @@ pub fn observe_records(
                             }
                             i = i + 1;
                             if 0 < change.dropped {
-                                let k = change.dropped;
-                                let len = after.len;
-                                let mut j: usize = 0;
-                                while j < len {
-                                    let moved = t.entries[64 * p + k + j];
-                                    t.entries[64 * p + j] = moved;
-                                    j = j + 1;
-                                }
+                                let from = 64 * p + change.dropped;
+                                t.entries.copy_within(from..from + after.len, 64 * p);
                             }
                         }
                     },

@@ -1,20 +1,18 @@
 -- `observing::observe_records` meets its contract. The invariant: what is asked of the chunk is what is asked of the rest of it.
--- Entries are moved down in their block: the first j of them.
 use mathlib.Core.Path.{◌≡◌, refl, sym, ap, ◌∙◌}
 use Prim.Native.Nat.{◌+◌, ◌-◌, ◌*◌, ◌≤◌}
 use native.Mathlib.Omega.{arith}
 use borrow.Author.Rules.{rules}
-use lib.ListN.{length, length-set, get_or, take}
+use lib.ListN.{length, length-set, get_or, set, take}
 use Rattle.definition.specs.Log as D
 use Rattle.ids.specs.Refusal.{checked_of}
 use Rattle.codec.specs.Records.{owner_of}
-use Rattle.view.specs.declared.Header.{Header}
 use Rattle.view.specs.Meaning.{no_entry}
 use Rattle.replay.specs.declared.Change.{Change}
 use Rattle.replay.specs.Plan.{answer_of, index_of, look_of}
-use Rattle.storage.specs.declared.RecoveredRaftStorage.{RecoveredRaftStorage}
 use Rattle.storage.specs.Model.{head_at}
-use Rattle.placing.proofs.Moves.{down_none, entries_down_turn}
+use native.Mathlib.Nat.{add-sub_cancel_left}
+use Rattle.store.proofs.Part.{pasted}
 use Rattle.recovery.proofs.Chunking.{no_record, most_is, chunk_size, chunk_at, runs_most, index_fits_lem, chunk_start, chunk_end, chunk_takes, chunk_refused, chunk_opened, at_take, taken_length}
 use Rattle.routing.proofs.Stepped.{stepped_stale, stepped_foreign, stepped_malformed, stepped_full, stepped_held}
 use Rattle.recovery.proofs.Turn.{found_of, at_below, missing_within, scanned_by, place_is, place_before, refused_drops, settleable_at, settled_here, settled_moved, not_refused, lent_length, moved_fits, ran_answer}
@@ -220,8 +218,8 @@ returns-in-Err-answer c =
     (chunk_refused _ args.state args.store.now _ args.lent.now loop.t loop.store (answer_of loop.answer) loop.i loop.invariant.3 loop-test.true no_record r (at_take args.records _ loop.i no_record loop-test.true) (index_fits_lem r _ index.ensures index.type_inv) _
     (stepped_held loop.t loop.store r args.lent.now m.0 kind m.2 m.3 p held ∙ settled_here loop.t loop.store p kind r.lsn args.lent.now _ other (place_is h p kind r.body _ _ index.ensures m.2 c.look-in-SnapshotPointer.ensures.place) refl d ys made (c.install_snapshot-change.auto.block ∙ lent_length loop.store p (omega (arith, below, linked.few)) linked.size) _ m.1 (refused_drops d ys h (get_or loop.t.entries (64 * p + c.look-in-SnapshotPointer.result) no_entry) (get_or loop.t.entries other no_entry) kind r.lsn _ args.lent.now _ made (ap answer_of c.in-Err-answer.is))) _ (ap answer_of c.in-Err-answer.is) _ _ (ran_answer _ _ _ _ _ c.in-Err-answer.is))
 
-pub loop-j-init : goal.loop-j-init
-loop-j-init c =
+pub overflow_add-from : goal.overflow_add-from
+overflow_add-from c =
     let args = c.args in
     let loop = c.loop-i in
     let kind = c.in-Raft.kind in
@@ -235,10 +233,61 @@ loop-j-init c =
     let ys = c.install_snapshot-change.new.block in
     let other = 64 * p + look_of h (index_of kind - 1) in
     let made = pointer_planned h (get_or loop.t.entries (64 * p + c.look-in-SnapshotPointer.result) no_entry) (get_or loop.t.entries other no_entry) kind _ r.lsn _ args.lent.now d ys c.in-SnapshotPointer.is c.install_snapshot-change.ensures in
-    (omega arith, down_none _ _ (64 * p + d.dropped), length-set loop.t.entries _ _ ∙ linked.all, omega (arith, below, linked.few, moved_fits d ys h (get_or loop.t.entries (64 * p + c.look-in-SnapshotPointer.result) no_entry) (get_or loop.t.entries other no_entry) kind r.lsn _ args.lent.now made c.if-change-gt0.true (linked.own _ below).short))
+    omega (arith, below, linked.few, moved_fits d ys h (get_or loop.t.entries (64 * p + c.look-in-SnapshotPointer.result) no_entry) (get_or loop.t.entries other no_entry) kind r.lsn _ args.lent.now made c.if-change-gt0.true (linked.own _ below).short)
 
-pub loop-i-preserved-in-loop-j : goal.loop-i-preserved-in-loop-j
-loop-i-preserved-in-loop-j c =
+pub overflow_add-from-then-change-gt0 : goal.overflow_add-from-then-change-gt0
+overflow_add-from-then-change-gt0 c =
+    let args = c.args in
+    let loop = c.loop-i in
+    let kind = c.in-Raft.kind in
+    let p = c.in-Ok.p in
+    let r = get_or args.records loop.i no_record in
+    let h = head_at loop.t p in
+    let linked = loop.invariant.3.running.ready.linked in
+    let held = found_of loop.t kind _ _ _ c.owner-identity.ensures c.find.ensures c.in-Ok.is in
+    let below = at_below loop.t (owner_of kind) _ held in
+    let d = c.install_snapshot-change.result in
+    let ys = c.install_snapshot-change.new.block in
+    let other = 64 * p + look_of h (index_of kind - 1) in
+    let made = pointer_planned h (get_or loop.t.entries (64 * p + c.look-in-SnapshotPointer.result) no_entry) (get_or loop.t.entries other no_entry) kind _ r.lsn _ args.lent.now d ys c.in-SnapshotPointer.is c.install_snapshot-change.ensures in
+    omega (arith, below, linked.few, moved_fits d ys h (get_or loop.t.entries (64 * p + c.look-in-SnapshotPointer.result) no_entry) (get_or loop.t.entries other no_entry) kind r.lsn _ args.lent.now made c.if-change-gt0.true (linked.own _ below).short)
+
+pub copy_within-requires-clause-in_bounds : goal.copy_within-requires-clause-in_bounds
+copy_within-requires-clause-in_bounds c =
+    let args = c.args in
+    let loop = c.loop-i in
+    let kind = c.in-Raft.kind in
+    let p = c.in-Ok.p in
+    let r = get_or args.records loop.i no_record in
+    let h = head_at loop.t p in
+    let linked = loop.invariant.3.running.ready.linked in
+    let held = found_of loop.t kind _ _ _ c.owner-identity.ensures c.find.ensures c.in-Ok.is in
+    let below = at_below loop.t (owner_of kind) _ held in
+    let d = c.install_snapshot-change.result in
+    let ys = c.install_snapshot-change.new.block in
+    let other = 64 * p + look_of h (index_of kind - 1) in
+    let made = pointer_planned h (get_or loop.t.entries (64 * p + c.look-in-SnapshotPointer.result) no_entry) (get_or loop.t.entries other no_entry) kind _ r.lsn _ args.lent.now d ys c.in-SnapshotPointer.is c.install_snapshot-change.ensures in
+    omega (arith, below, linked.few, moved_fits d ys h (get_or loop.t.entries (64 * p + c.look-in-SnapshotPointer.result) no_entry) (get_or loop.t.entries other no_entry) kind r.lsn _ args.lent.now made c.if-change-gt0.true (linked.own _ below).short)
+
+pub copy_within-requires-clause-dest_in_bounds : goal.copy_within-requires-clause-dest_in_bounds
+copy_within-requires-clause-dest_in_bounds c =
+    let args = c.args in
+    let loop = c.loop-i in
+    let kind = c.in-Raft.kind in
+    let p = c.in-Ok.p in
+    let r = get_or args.records loop.i no_record in
+    let h = head_at loop.t p in
+    let linked = loop.invariant.3.running.ready.linked in
+    let held = found_of loop.t kind _ _ _ c.owner-identity.ensures c.find.ensures c.in-Ok.is in
+    let below = at_below loop.t (owner_of kind) _ held in
+    let d = c.install_snapshot-change.result in
+    let ys = c.install_snapshot-change.new.block in
+    let other = 64 * p + look_of h (index_of kind - 1) in
+    let made = pointer_planned h (get_or loop.t.entries (64 * p + c.look-in-SnapshotPointer.result) no_entry) (get_or loop.t.entries other no_entry) kind _ r.lsn _ args.lent.now d ys c.in-SnapshotPointer.is c.install_snapshot-change.ensures in
+    omega (arith, below, linked.few, moved_fits d ys h (get_or loop.t.entries (64 * p + c.look-in-SnapshotPointer.result) no_entry) (get_or loop.t.entries other no_entry) kind r.lsn _ args.lent.now made c.if-change-gt0.true (linked.own _ below).short)
+
+pub loop-i-preserved-then-change-gt0 : goal.loop-i-preserved-then-change-gt0
+loop-i-preserved-then-change-gt0 c =
     let args = c.args in
     let loop = c.loop-i in
     let loop-test = c.loop-i-test in
@@ -255,19 +304,15 @@ loop-i-preserved-in-loop-j c =
     let ys = c.install_snapshot-change.new.block in
     let other = 64 * p + look_of h (index_of kind - 1) in
     let made = pointer_planned h (get_or loop.t.entries (64 * p + c.look-in-SnapshotPointer.result) no_entry) (get_or loop.t.entries other no_entry) kind _ r.lsn _ args.lent.now d ys c.in-SnapshotPointer.is c.install_snapshot-change.ensures in
-    let loop2 = c.loop-j in
     let x = chunk_takes _ args.state args.store.now _ args.lent.now loop.t loop.store (answer_of loop.answer) loop.i loop.invariant.3 loop-test.true no_record r (at_take args.records _ loop.i no_record loop-test.true) (index_fits_lem r _ index.ensures index.type_inv) _
     (stepped_held loop.t loop.store r args.lent.now m.0 kind m.2 m.3 p held ∙ settled_moved loop.t loop.store p kind r.lsn args.lent.now _ other (place_is h p kind r.body _ _ index.ensures m.2 c.look-in-SnapshotPointer.ensures.place) refl d ys made (c.install_snapshot-change.auto.block ∙ lent_length loop.store p (omega (arith, below, linked.few)) linked.size) _ m.1 c.if-change-gt0.true) (not_refused d.answer (λ w e. c.in_default-answer.not-Err w e)) in
-    let all : loop2.j ≡ d.head.len = omega (arith, c.loop-j-test.false, loop2.invariant.0) in
-    let moved = rw all at loop2.invariant.1 in
-    let y = chunk_at _ args.state args.store.now _ args.lent.now _ _ _ _ (answer_of d.answer) (loop.i + 1) moved refl x in
+    let q = 64 * p + c.look-in-SnapshotPointer.result in
+    let fits = moved_fits d ys h (get_or loop.t.entries q no_entry) (get_or loop.t.entries other no_entry) kind r.lsn _ args.lent.now made c.if-change-gt0.true (linked.own _ below).short in
+    let es = set loop.t.entries q d.entry in
+    let room : 64 * p + d.dropped + d.head.len ≤ length es = omega (arith, length-set loop.t.entries q d.entry, linked.all, below, linked.few, fits) in
+    let moved = c.copy_within.ensures.after ∙ pasted es (64 * p) (64 * p + d.dropped) d.head.len _ (add-sub_cancel_left (64 * p + d.dropped) d.head.len) room in
+    let y = chunk_at _ args.state args.store.now _ args.lent.now _ _ _ _ (answer_of d.answer) (loop.i + 1) (λ j. record { heads = set loop.t.heads p d.head; entries = moved j; held = loop.t.held; scan = c.in-Raft.next }) refl x in
     (loop.invariant.0, omega (arith, loop-test.true), chunk_size _ _ _ _ _ _ _ _ _ y, y)
-
-pub loop-j-preserved : goal.loop-j-preserved
-loop-j-preserved c =
-    let p = c.in-Ok.p in
-    let w = c.loop-j in
-    (omega (arith, c.loop-j-test.true), entries_down_turn _ (64 * p) (64 * p + _) w.t w.j w.invariant.1 (omega arith) (omega (arith, w.invariant.2, w.invariant.3, c.loop-j-test.true)), w.invariant.2, w.invariant.3)
 
 pub loop-i-preserved : goal.loop-i-preserved
 loop-i-preserved c =
