@@ -172,7 +172,7 @@ fn main(rt: HostRuntime) -> io::Result<()> {
             &mut store,
         ),
         _ => summed(
-            |t, records, store| observing::observe_records(t, *records, 256, &lent, store).state,
+            |t, records, store| observing::observe_records(t, records, &lent, store).state,
             &chunks,
             rounds,
             &mut store,

@@ -98,8 +98,7 @@ fn observe_all(
         let chunk = read_chunk(source, most - done, commands.lens());
         let d = observing::observe_records(
             state,
-            chunk.records,
-            chunk.count,
+            &chunk.records[..chunk.count.min(256)],
             &commands.bytes,
             store,
         );

@@ -1,2 +1,3 @@
 pub mod Program
 pub mod Runs
+pub mod Steps

@@ -1,6 +1,6 @@
 -- What observing answers and leaves.
 -- Assumes nothing.
-use Rattle.std.specs.Prelude.{◌≡◌, true, false, cond, List, ℕ, ◌<◌, ltb}
+use Rattle.std.specs.Prelude.{◌≡◌, true, false, List, ℕ, ◌<◌}
 use Rattle.definition.specs.Table.{u64_max}
 use Rattle.definition.specs.Log as D
 use Rattle.definition.specs.Recovery.{out, sound, observe, refusal_of, Chunk, observe_until_refused}
@@ -14,10 +14,6 @@ use Rattle.recovery.specs.declared.observing.ObservedChunk.{ObservedChunk}
 use Rattle.recovery.specs.declared.observing.Observed.{Observed}
 use Rattle.routing.specs.Observe.{Stepped, observed_of, Ran, run_of, last_answer, journal_of}
 
--- A count past 256 reads as 256.
-abbrev pub at_most : ℕ → ℕ
-at_most n = cond (ltb n 256) n 256
-
 -- What the code's answers are, with the store that they leave.
 abbrev pub ran_of : ObservedChunk → List ℕ → Ran
 ran_of d st = record { taken = d.taken; answer = answer_of d.answer; state = d.state; store = st }
@@ -28,7 +24,7 @@ chunk_of d st = record { taken = d.taken; ended = refusal_of (answer_of d.answer
 abbrev pub step_of : Observed → List ℕ → Stepped
 step_of d st = record { answer = answer_of d.answer; state = d.state; store = st }
 
--- A chunk: the first `count` of 256 records, until the first refusal.
+-- A chunk: its records in turn, until the first refusal.
 pub record Runs (s : RecoveredRaftStorage) (st : List ℕ) (rs : List WalRecord) (lent : List ℕ) (d : ObservedChunk) (st' : List ℕ) : Type 0 where
   pub model : ran_of d st' ≡ run_of s st rs lent
   -- where state and store are sound: the definition's chunk, and its last answer

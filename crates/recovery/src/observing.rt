@@ -1,9 +1,18 @@
 // Observing: records of a journal, one or a chunk of them, each decided on small values and written in place.
-ghost use Rattle.std.specs.Prelude.{◌≡◌, take};
-ghost use Rattle.recovery.specs.Runs.{at_most, Runs, Observing};
+ghost use Rattle.std.specs.Prelude.{◌≡◌, ◌<◌, List, [], ℕ, length};
+ghost use Rattle.codec.specs.declared.RaftWalRecord.TheVariants.{Entry, HardState, SnapshotPointer};
+ghost use Rattle.ids.specs.Identity.{identity_of};
+ghost use Rattle.storage.specs.Finding.{found_at};
+ghost use Rattle.storage.specs.Meaning.{Linked};
+ghost use Rattle.routing.proofs.Ready.{Ready};
+ghost use Rattle.recovery.specs.Runs.{Runs, Observing};
+ghost use Rattle.recovery.specs.Steps.{settled, Settling, placed_by, Stepping};
+ghost use Rattle.replay.specs.Plan.{answer_of};
 
-use codec::{RaftWalRecord, WalRecord};
-use ids::Refusal;
+use codec::{
+    RaftHardStateRecord, RaftLogEntryRecord, RaftSnapshotPointerRecord, RaftWalRecord, WalRecord,
+};
+use ids::{Lsn, RaftReplicaIdentity, Refusal};
 use replay::Observation;
 use routing::Admission;
 use storage::RecoveredRaftStorage;
@@ -24,179 +33,170 @@ pub struct Observed {
     pub state: RecoveredRaftStorage,
 }
 
-// A count past 256 reads as 256.
-fn at_most(count: usize) -> usize
-    ensures { result ≡ at_most count }
+// The place of a replica, opened where it is not held (23, where 8 are).
+fn place_of(
+    t: &mut RecoveredRaftStorage,
+    store: &mut [u8],
+    identity: RaftReplicaIdentity,
+) -> Result<usize, Refusal>
+    requires { Linked t.old store.old }
+    ensures { record { place = result; state = t.new; store = store.new } ≡ placed_by (found_at t.old (identity_of identity)) t.old store.old identity }
 {
-    count.min(256)
+    match t.find(identity) {
+        Ok(p) => Ok(p),
+        Err(_) if 8 <= t.held => Err(Refusal::TooManyReplicas),
+        Err(p) => {
+            *t = placing::open_place(*t, store, p, identity);
+            Ok(p)
+        }
+    }
 }
 
-// The first `count` records, until the first refusal. Soundness is tested once: every step keeps it, but for the count of scanned
-// records, which is tested before each. A replica that is not held has its place opened, and its record is looked at again.
+// An entry, at its replica's place.
+fn observe_entry(
+    t: &mut RecoveredRaftStorage,
+    store: &mut [u8],
+    p: usize,
+    r: RaftLogEntryRecord,
+    lsn: Lsn,
+    lent: &[u8],
+) -> Result<Observation, Refusal>
+    requires { Settling t.old store.old p (Entry r) lent.now }
+    ensures { settled t.old store.old p (Entry r) lsn lent.now ≡ record { answer = answer_of result; state = t.new; store = store.new } }
+{
+    let head = t.heads[p];
+    let q = 64 * p + replay::look(head, r.index);
+    let before = 64 * p + replay::look_before(head, r.index);
+    let e = t.entries[q];
+    let b = t.entries[before];
+    let at = 4096 * p;
+    let outcome = replay::decide(head, e, b, r, &store[at..at + 4096], lent)?;
+    let len = replay::len_after(head, r.index, Ok(outcome));
+    t.heads[p] = head.with_entry(len, lsn);
+    let written = replay::write_entry(
+        head,
+        e,
+        r,
+        lsn,
+        &mut store[at..at + 4096],
+        lent,
+        Ok(outcome),
+    );
+    t.entries[q] = written.entry;
+    written.answer
+}
+
+// A hard state, at its replica's place: it changes the header alone, whatever the store.
+fn observe_hard_state(
+    t: &mut RecoveredRaftStorage,
+    p: usize,
+    r: RaftHardStateRecord,
+    lsn: Lsn,
+) -> Result<Observation, Refusal>
+    requires { p < 8 }
+    ensures { (st lent : List ℕ) → length st ≡ 32768 → settled t.old st p (HardState r) lsn lent ≡ record { answer = answer_of result; state = t.new; store = st } }
+{
+    let head = t.heads[p];
+    view::decide_hard_state(head, r.hard_state)?;
+    t.heads[p] = head.with_hard_state(r.hard_state, lsn);
+    Ok(Observation::Kept)
+}
+
+// A pointer, at its replica's place: the entries that it covers go.
+fn observe_pointer(
+    t: &mut RecoveredRaftStorage,
+    store: &mut [u8],
+    p: usize,
+    pointer: RaftSnapshotPointerRecord,
+    lsn: Lsn,
+) -> Result<Observation, Refusal>
+    requires { Settling t.old store.old p (SnapshotPointer pointer) [] }
+    ensures { settled t.old store.old p (SnapshotPointer pointer) lsn [] ≡ record { answer = answer_of result; state = t.new; store = store.new } }
+{
+    let head = t.heads[p];
+    let q = 64 * p + replay::look(head, pointer.last_included_index);
+    let at = 4096 * p;
+    let change = replay::install_snapshot(
+        head,
+        t.entries[q],
+        pointer,
+        lsn,
+        &mut store[at..at + 4096],
+    );
+    t.heads[p] = change.head;
+    t.entries[q] = change.entry;
+    if 0 < change.dropped {
+        let from = 64 * p + change.dropped;
+        t.entries.copy_within(from..from + change.head.len, 64 * p);
+    }
+    change.answer
+}
+
+// One record, on a state that is sound but for its count of scanned records.
+fn observe_next(
+    t: &mut RecoveredRaftStorage,
+    store: &mut [u8],
+    r: WalRecord,
+    lent: &[u8],
+) -> Result<Observation, Refusal>
+    requires { Ready t.old store.old }
+    ensures { Stepping t.old store.old r lent.now result t.new store.new }
+{
+    match routing::admit(t.scan, r, lent) {
+        Admission::Refused(why) => Err(why),
+        Admission::Counted(next) => {
+            t.scan = next;
+            Ok(Observation::Counted)
+        }
+        Admission::Malformed(next, why) => {
+            t.scan = next;
+            Err(why)
+        }
+        Admission::Raft(next, kind) => {
+            t.scan = next;
+            let p = place_of(t, store, replay::owner(kind))?;
+            match kind {
+                RaftWalRecord::Entry(entry) => observe_entry(t, store, p, entry, r.lsn, lent),
+                RaftWalRecord::HardState(hard) => observe_hard_state(t, p, hard, r.lsn),
+                RaftWalRecord::SnapshotPointer(pointer) => {
+                    observe_pointer(t, store, p, pointer, r.lsn)
+                }
+            }
+        }
+    }
+}
+
+// The records in turn, until the first refusal. Soundness is tested once: every step keeps it, but for the count of scanned records,
+// which is tested before each.
 pub fn observe_records(
     state: RecoveredRaftStorage,
-    records: [WalRecord; 256],
-    count: usize,
+    records: &[WalRecord],
     lent: &[u8],
     store: &mut [u8],
 ) -> ObservedChunk
-    ensures { Runs state store.old (take (at_most count) records) lent.now result store.new }
+    ensures { Runs state store.old records.now lent.now result store.new }
 {
-    if !soundness::is_sound(&state, &store[..]) {
+    if !soundness::is_sound(&state, store) {
         return ObservedChunk {
             taken: 0,
             answer: Err(Refusal::Unsound),
             state,
         };
     }
-    let n = at_most(count);
     let mut t = state;
     let mut answer = Ok(Observation::Counted);
-    let mut i: usize = 0;
-    while i < n {
-        let r = records[i];
-        let lsn = r.lsn;
-        let index = routing::index_of(r);
-        match routing::admit(t.scan, r, lent) {
-            Admission::Refused(why) => {
-                return ObservedChunk {
-                    taken: i,
-                    answer: Err(why),
-                    state: t,
-                };
-            }
-            Admission::Counted(next) => {
-                t.scan = next;
-                answer = Ok(Observation::Counted);
-                i = i + 1;
-            }
-            Admission::Malformed(next, why) => {
-                t.scan = next;
-                return ObservedChunk {
-                    taken: i,
-                    answer: Err(why),
-                    state: t,
-                };
-            }
-            Admission::Raft(next, kind) => {
-                let identity = replay::owner(kind);
-                match t.find(identity) {
-                    Err(p) => {
-                        if 8 <= t.held {
-                            t.scan = next;
-                            return ObservedChunk {
-                                taken: i,
-                                answer: Err(Refusal::TooManyReplicas),
-                                state: t,
-                            };
-                        }
-                        t = placing::open_place(t, store, p, identity);
-                    }
-                    Ok(p) => match kind {
-                        RaftWalRecord::Entry(received) => {
-                            let head = t.heads[p];
-                            let q = 64 * p + replay::look(head, index);
-                            let before = 64 * p + replay::look_before(head, index);
-                            let e = t.entries[q];
-                            let b = t.entries[before];
-                            let at = 4096 * p;
-                            let end = at + 4096;
-                            let outcome = replay::decide(
-                                head,
-                                e,
-                                b,
-                                received,
-                                &store[at..end],
-                                lent,
-                            );
-                            if let Err(why) = outcome {
-                                t.scan = next;
-                                return ObservedChunk {
-                                    taken: i,
-                                    answer: Err(why),
-                                    state: t,
-                                };
-                            }
-                            let len = replay::len_after(head, received.index, outcome);
-                            let after = head.with_entry(len, lsn);
-                            t.heads[p] = after;
-                            let change = replay::write_entry(
-                                head,
-                                e,
-                                received,
-                                lsn,
-                                &mut store[at..end],
-                                lent,
-                                outcome,
-                            );
-                            let kept = change.entry;
-                            answer = change.answer;
-                            t.entries[q] = kept;
-                            t.scan = next;
-                            i = i + 1;
-                        }
-                        RaftWalRecord::HardState(hard) => {
-                            let head = t.heads[p];
-                            let received = hard.hard_state;
-                            if let Err(why) = view::decide_hard_state(head, received) {
-                                t.scan = next;
-                                return ObservedChunk {
-                                    taken: i,
-                                    answer: Err(why),
-                                    state: t,
-                                };
-                            }
-                            let after = head.with_hard_state(received, lsn);
-                            t.heads[p] = after;
-                            t.scan = next;
-                            answer = Ok(Observation::Kept);
-                            i = i + 1;
-                        }
-                        RaftWalRecord::SnapshotPointer(pointer) => {
-                            let head = t.heads[p];
-                            let q = 64 * p + replay::look(head, index);
-                            let e = t.entries[q];
-                            let at = 4096 * p;
-                            let end = at + 4096;
-                            let change = replay::install_snapshot(
-                                head,
-                                e,
-                                pointer,
-                                lsn,
-                                &mut store[at..end],
-                            );
-                            let after = change.head;
-                            let entry = change.entry;
-                            answer = change.answer;
-                            t.heads[p] = after;
-                            t.entries[q] = entry;
-                            t.scan = next;
-                            if let Err(why) = answer {
-                                return ObservedChunk {
-                                    taken: i,
-                                    answer: Err(why),
-                                    state: t,
-                                };
-                            }
-                            i = i + 1;
-                            if 0 < change.dropped {
-                                let k = change.dropped;
-                                let len = after.len;
-                                let mut j: usize = 0;
-                                while j < len {
-                                    let moved = t.entries[64 * p + k + j];
-                                    t.entries[64 * p + j] = moved;
-                                    j = j + 1;
-                                }
-                            }
-                        }
-                    },
-                }
-            }
+    for (taken, r) in records.iter().enumerate() {
+        answer = observe_next(&mut t, store, *r, lent);
+        if answer.is_err() {
+            return ObservedChunk {
+                taken,
+                answer,
+                state: t,
+            };
         }
     }
     ObservedChunk {
-        taken: i,
+        taken: records.len(),
         answer,
         state: t,
     }
@@ -211,9 +211,13 @@ pub fn observe_record(
 ) -> Observed
     ensures { Observing state store.old r lent.now result store.new }
 {
-    let chunk = observe_records(state, [r; 256], 1, lent, store);
-    Observed {
-        answer: chunk.answer,
-        state: chunk.state,
+    let mut t = state;
+    if !soundness::is_sound(&t, store) {
+        return Observed {
+            answer: Err(Refusal::Unsound),
+            state,
+        };
     }
+    let answer = observe_next(&mut t, store, r, lent);
+    Observed { answer, state: t }
 }

@@ -14,11 +14,12 @@ use std::io;
 use storage::RecoveredRaftStorage;
 use trying::Trial;
 
-// How many of 256 records a chunk takes that is said to have `count`.
+// How many records a chunk takes of the first `count` of 256.
 fn taken_of(count: usize) -> usize {
     let mut store = [0u8; 32768];
     let s = RecoveredRaftStorage::fresh();
-    observing::observe_records(s, records::foreign_records(), count, b"", &mut store).taken
+    let all = records::foreign_records();
+    observing::observe_records(s, &all[..count.min(256)], b"", &mut store).taken
 }
 
 fn chunk_sizes(rt: &impl Print) -> io::Result<()> {
@@ -32,7 +33,7 @@ fn chunk_sizes(rt: &impl Print) -> io::Result<()> {
 fn states_by_hand(rt: &impl Print, lent: &[u8]) -> io::Result<()> {
     let mut store = [0u8; 32768];
     let s = RecoveredRaftStorage::fresh();
-    let done = observing::observe_records(s, records::two_replicas(), 7, lent, &mut store);
+    let done = observing::observe_records(s, &records::two_replicas(), lent, &mut store);
     let from = Trial {
         rt,
         state: done.state,

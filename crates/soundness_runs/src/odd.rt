@@ -1,7 +1,6 @@
 // States that are odd and yet sound: none may be refused by 1. The first two are the states that the broken ones start from.
 use crate::trying::Trial;
 use crate::{records, states, text};
-use codec::WalRecord;
 use recovery::observing;
 use std::io;
 use storage::RecoveredRaftStorage;
@@ -62,17 +61,11 @@ fn garbage(from: &Trial<impl Print>) -> io::Result<()> {
     from.odd("garbage-in-unused-blocks", all)
 }
 
-// Foreign records at 11 and 12.
-fn two_foreign() -> [WalRecord; 256] {
-    let mut all = [records::foreign(11); 256];
-    all[1] = records::foreign(12);
-    all
-}
-
-// A chunk of two foreign records takes one: the count is then at its end, and finishing is refused too.
+// Of two foreign records one is taken: the count is then at its end, and finishing is refused too.
 fn last_count(rt: &impl Print, s: RecoveredRaftStorage, store: &[u8; 32768]) -> io::Result<()> {
     let mut copy = *store;
-    let done = observing::observe_records(s, two_foreign(), 2, b"", &mut copy);
+    let two = [records::foreign(11), records::foreign(12)];
+    let done = observing::observe_records(s, &two, b"", &mut copy);
     print!(rt; "odd scanned-2^64-2 chunk of 2 taken {} ", done.taken)?;
     text::answer(rt, "foreign", &done.answer)?;
     print!(rt; " then finish ")?;

@@ -75,19 +75,19 @@ fn at(lsn: u64, kind: RaftWalRecord) -> WalRecord {
 }
 
 // Replica 1 1 with entries 1 and 2 (5 and 64 bytes) and a hard state; replica 2 3 with pointer 5 of term 2, entries 6 and 7 (6 and
-// 7 bytes) and a hard state. The first seven records; the others are of no Raft kind.
-pub fn two_replicas() -> [WalRecord; 256] {
+// 7 bytes) and a hard state.
+pub fn two_replicas() -> [WalRecord; 7] {
     let one = identity(1, 1);
     let two = identity(2, 3);
-    let mut all = [foreign(0); 256];
-    all[0] = at(3, entry(one, 1, 1, 1, 5));
-    all[1] = at(4, entry(one, 2, 1, 2, 64));
-    all[2] = at(6, hard_state(one, 1, 2, 1));
-    all[3] = at(7, RaftWalRecord::SnapshotPointer(pointer(two, 5, 2)));
-    all[4] = at(8, entry(two, 6, 2, 3, 6));
-    all[5] = at(9, entry(two, 7, 3, 4, 7));
-    all[6] = at(10, hard_state(two, 3, 3, 6));
-    all
+    [
+        at(3, entry(one, 1, 1, 1, 5)),
+        at(4, entry(one, 2, 1, 2, 64)),
+        at(6, hard_state(one, 1, 2, 1)),
+        at(7, RaftWalRecord::SnapshotPointer(pointer(two, 5, 2))),
+        at(8, entry(two, 6, 2, 3, 6)),
+        at(9, entry(two, 7, 3, 4, 7)),
+        at(10, hard_state(two, 3, 3, 6)),
+    ]
 }
 
 // 256 records of no Raft kind, with rising LSNs.

@@ -1,9 +1,27 @@
 -- `observing::observe_record` meets its contract.
-use mathlib.Core.Path.{refl}
-use Rattle.recovery.proofs.One.{one_observes}
+use mathlib.Core.Path.{◌≡◌, sym, ◌∙◌}
+use Rattle.std.proofs.Common.{rules, length}
+use Rattle.routing.proofs.Ready.{test_ready}
+use Rattle.recovery.proofs.One.{one_observes, one_unsound}
 use Rattle.recovery.proofs.observing.observe_record.Goals as goal
+
+pub returns-then-not-is_sound : goal.returns-then-not-is_sound
+returns-then-not-is_sound c =
+    let a = c.args in
+    let eight : length a.state.heads ≡ 8 = search rules in
+    let all : length a.state.entries ≡ 512 = search rules in
+    one_unsound a.state a.store.now a.r a.lent.now eight all (sym c.is_sound.ensures ∙ c.if-not-is_sound.true)
+
+pub observe_next-answer-requires : goal.observe_next-answer-requires
+observe_next-answer-requires c =
+    let a = c.args in
+    let eight : length a.state.heads ≡ 8 = search rules in
+    let all : length a.state.entries ≡ 512 = search rules in
+    test_ready a.state a.store.now eight all (sym c.is_sound.ensures ∙ c.if-not-is_sound.false)
 
 pub returns : goal.returns
 returns c =
     let a = c.args in
-    one_observes a.state a.store.now a.r a.lent.now c.observe_records-chunk.result _ c.observe_records-chunk.ensures _ refl
+    let eight : length a.state.heads ≡ 8 = search rules in
+    let all : length a.state.entries ≡ 512 = search rules in
+    one_observes a.state a.store.now a.r a.lent.now eight all (sym c.is_sound.ensures ∙ c.if-not-is_sound.false) _ _ _ c.observe_next-answer.ensures

@@ -1,23 +1,7 @@
 -- `observing::observe_records` meets its contract. The invariant: what is asked of the chunk is what is asked of the rest of it.
--- Entries are moved down in their block: the first j of them.
-use mathlib.Core.Path.{◌≡◌}
-use Prim.Native.Nat.{◌+◌, ◌-◌, ◌*◌, ◌≤◌}
-use lib.ListN.{length, take}
 use Rattle.replay.specs.Plan.{answer_of}
-use Rattle.placing.proofs.Moves.{entries_down}
 use Rattle.recovery.proofs.Chunking.{Chunking}
 use Rattle.recovery.proofs.observing.observe_records.Given as goal
 
-abbrev pub invariant-loop-j : goal.invariant-loop-j
-invariant-loop-j l =
-    (l.j ≤ l.len) × (l.t ≡ entries_down l.initial.t (64 * l.p) (64 * l.p + l.k) l.j) × (length l.initial.t.entries ≡ 512) × (64 * l.p + l.k + l.len ≤ 512)
-
-abbrev pub decreases-loop-j : goal.decreases-loop-j
-decreases-loop-j l = l.len - l.j
-
-abbrev pub invariant-loop-i : goal.invariant-loop-i
-invariant-loop-i l =
-    (l.n ≤ 256) × (l.i ≤ l.n) × (length l.store ≡ length l.initial.store) × Chunking l.n l.initial.t l.initial.store (take l.n l.records) l.lent l.t l.store (answer_of l.answer) l.i
-
-abbrev pub decreases-loop-i : goal.decreases-loop-i
-decreases-loop-i l = 9 * (l.n - l.i) + (8 - l.t.held)
+abbrev pub invariant-loop-taken : goal.invariant-loop-taken
+invariant-loop-taken l = Chunking l.initial.t l.initial.store l.records l.lent l.t l.store (answer_of l.answer) l.taken
