@@ -18,13 +18,13 @@ module _ (e : BatchEntry) (lent : List ℕ) where
   unfolding entries_of
   entry_added es = map-append (entry_of lent) es (e ∷ [])
 
-  pub line_added : (g next : Given) → add_entry g e ≡ Some next → entries_of next.entries lent ≡ entries_of g.entries lent ++ (entry_of lent e ∷ [])
+  pub line_added : (g next : Given) → add_entry g e ≡ Some next → entries_of next.entries.items lent ≡ entries_of g.entries.items lent ++ (entry_of lent e ∷ [])
   unfolding add_entry
-  line_added g next = go (is_open g && length g.entries <? 64)
+  line_added g next = go (is_open g && length g.entries.items <? 64)
     where
       more : Given
-      more = given_of g.snapshot (g.entries ++ (e ∷ [])) g.hard_state g.shows
+      more = given_of g.snapshot (g.entries.items ++ (e ∷ [])) g.hard_state g.shows
 
-      go : (x : Bool) → (if x then Some more else None) ≡ Some next → entries_of next.entries lent ≡ entries_of g.entries lent ++ (entry_of lent e ∷ [])
-      go true p = sym (ap (λ (o : Option Given). entries_of (unwrap_or o more).entries lent) p) ∙ entry_added g.entries
+      go : (x : Bool) → (if x then Some more else None) ≡ Some next → entries_of next.entries.items lent ≡ entries_of g.entries.items lent ++ (entry_of lent e ∷ [])
+      go true p = sym (ap (λ (o : Option Given). entries_of (unwrap_or o more).entries.items lent) p) ∙ entry_added g.entries.items
       go false p = absurd (false≢true (ap is_some p))

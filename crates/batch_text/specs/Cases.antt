@@ -226,7 +226,7 @@ entries n = replicate n (an_entry 9)
 
 -- the index of the entry at a place, 0 where there is none
 index_at : ℕ → Given → ℕ
-index_at i g = get_or (map (λ (e : BatchEntry). e.index) g.entries) i 0
+index_at i g = get_or (map (λ (e : BatchEntry). e.index) g.entries.items) i 0
 
 orders : List Bool
 orders =
@@ -246,11 +246,11 @@ orders =
     ∷ takes (given_of None [] None 4095) (L.Show 1 ∷ [])
     ∷ not (takes (given_of None [] None 4096) (L.Show 1 ∷ []))
     -- entries at their places
-    ∷ (length (after no_batch (an_entry 6 ∷ an_entry 7 ∷ [])).entries =? 2)
+    ∷ (length (after no_batch (an_entry 6 ∷ an_entry 7 ∷ [])).entries.items =? 2)
     ∷ (index_at 0 (after no_batch (an_entry 6 ∷ an_entry 7 ∷ [])) =? 6)
     ∷ (index_at 1 (after no_batch (an_entry 6 ∷ an_entry 7 ∷ [])) =? 7)
     ∷ (index_at 2 (after no_batch (an_entry 6 ∷ an_entry 7 ∷ [])) =? 0)
-    ∷ (length (after no_batch (entries 40)).entries =? 40)
+    ∷ (length (after no_batch (entries 40)).entries.items =? 40)
     ∷ (index_at 31 (after no_batch (entries 40)) =? 9)
     ∷ (index_at 39 (after no_batch (entries 40)) =? 9)
     ∷ (index_at 40 (after no_batch (entries 40)) =? 0)

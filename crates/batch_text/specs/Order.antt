@@ -11,7 +11,7 @@ use Rattle.batch_text.specs.declared.Given.{Given}
 
 -- the lines by their parts
 abbrev pub given_of : Option RaftSnapshotPointerRecord → List BatchEntry → Option HardState → ℕ → Given
-given_of p es h shows = record { snapshot = p; entries = es; hard_state = h; shows = shows }
+given_of p es h shows = record { snapshot = p; entries = record { items = es }; hard_state = h; shows = shows }
 
 -- no line yet
 abbrev pub no_batch : Given
@@ -24,21 +24,21 @@ is_open g = g.shows =? 0 && not (is_some g.hard_state)
 -- a batch with one line more; none where the line may not stand there
 unfoldable pub add_pointer : Given → RaftSnapshotPointerRecord → Option Given
 add_pointer g p =
-    if is_open g && length g.entries =? 0 && not (is_some g.snapshot)
-    then Some (given_of (Some p) g.entries g.hard_state g.shows)
+    if is_open g && length g.entries.items =? 0 && not (is_some g.snapshot)
+    then Some (given_of (Some p) g.entries.items g.hard_state g.shows)
     else None
 
 unfoldable pub add_entry : Given → BatchEntry → Option Given
 add_entry g e =
-    if is_open g && length g.entries <? 64
-    then Some (given_of g.snapshot (g.entries ++ (e ∷ [])) g.hard_state g.shows)
+    if is_open g && length g.entries.items <? 64
+    then Some (given_of g.snapshot (g.entries.items ++ (e ∷ [])) g.hard_state g.shows)
     else None
 
 unfoldable pub add_hard_state : Given → HardState → Option Given
-add_hard_state g h = if is_open g then Some (given_of g.snapshot g.entries (Some h) g.shows) else None
+add_hard_state g h = if is_open g then Some (given_of g.snapshot g.entries.items (Some h) g.shows) else None
 
 unfoldable pub add_show : Given → Option Given
-add_show g = if g.shows <? 4096 then Some (given_of g.snapshot g.entries g.hard_state (g.shows + 1)) else None
+add_show g = if g.shows <? 4096 then Some (given_of g.snapshot g.entries.items g.hard_state (g.shows + 1)) else None
 
 abbrev pub added : Given → BatchLine → Option Given
 added g (L.Pointer p) = add_pointer g p

@@ -6,10 +6,10 @@ ghost use Rattle.std.specs.Prelude.{◌≡◌, ◌<◌, [], ◌∷◌, ◌++◌,
 ghost use Rattle.batch_text.specs.Line.{finish_on, identity_on, snapshot_on, hard_state_on, entry_on, line_on};
 ghost use Rattle.batch_text.specs.Order.{no_batch, is_open, add_pointer, add_entry, add_hard_state, add_show, added};
 
+use arrayvec::ArrayVec;
 use batches::{BatchEntry, RaftPersistenceBatch};
-use codec::{DurableRaftEntryPayload, HardState, RaftSnapshotPointerRecord};
+use codec::{HardState, RaftSnapshotPointerRecord};
 use ids::RaftReplicaIdentity;
-use std::marker::Model;
 use text::line::Line;
 use text::record;
 
@@ -28,60 +28,11 @@ pub enum BatchLine {
     Show(u64),
 }
 
-// The entries of the lines so far. An ArrayVec, which has the same list, asks for a Default of an entry, and there is none.
-#[derive(Drop)]
-pub struct EntryList {
-    list: [BatchEntry; 64],
-    count: usize,
-}
-
-impl Model for EntryList {
-    ghost use Rattle.std.specs.Prelude.{◌≤◌, List, take};
-    ghost use Rattle.batches.specs.declared.BatchEntry.{BatchEntry};
-
-    ghost Value = { List BatchEntry };
-
-    ghost view = { λ es. take es.count es.list };
-
-    ghost invariant = { λ es. es.count ≤ 64 };
-}
-
-impl EntryList {
-    fn none() -> EntryList
-        ensures { result ≡ [] }
-    {
-        let blank = BatchEntry {
-            index: 0,
-            term: 0,
-            payload: DurableRaftEntryPayload::Normal { place: 0, len: 0 },
-        };
-        EntryList {
-            list: [blank; 64],
-            count: 0,
-        }
-    }
-
-    // One more, behind the others.
-    fn push(&mut self, e: BatchEntry)
-        requires { length self.old < 64 }
-        ensures { self.new ≡ self.old ++ e ∷ [] }
-    {
-        self.list[self.count] = e;
-        self.count += 1;
-    }
-
-    fn as_slice(&self) -> &[BatchEntry]
-        ensures { result.now ≡ self.now }
-    {
-        &self.list[..self.count]
-    }
-}
-
 // A batch as far as its lines were read, and how many lines `show` there were.
 #[derive(Drop)]
 pub struct Given {
     pub snapshot: Option<RaftSnapshotPointerRecord>,
-    pub entries: EntryList,
+    pub entries: ArrayVec<BatchEntry, MAX_ENTRY_LINES>,
     pub hard_state: Option<HardState>,
     pub shows: usize,
 }
@@ -165,7 +116,7 @@ impl Given {
     {
         Given {
             snapshot: None,
-            entries: EntryList::none(),
+            entries: ArrayVec::new(),
             hard_state: None,
             shows: 0,
         }
@@ -174,7 +125,7 @@ impl Given {
     // The batch that the lines say.
     pub fn batch(&self) -> RaftPersistenceBatch<'_>
         ensures snapshot { result.snapshot ≡ self.now.snapshot }
-        ensures entries { result.entries.now ≡ self.now.entries }
+        ensures entries { result.entries.now ≡ self.now.entries.items }
         ensures hard_state { result.hard_state ≡ self.now.hard_state }
     {
         RaftPersistenceBatch {
@@ -195,7 +146,7 @@ impl Given {
     fn with_pointer(mut self, p: RaftSnapshotPointerRecord) -> Option<Given>
         ensures { result ≡ add_pointer self p }
     {
-        if !self.is_open() || !self.entries.as_slice().is_empty() || self.snapshot.is_some() {
+        if !self.is_open() || !self.entries.is_empty() || self.snapshot.is_some() {
             return None;
         }
         self.snapshot = Some(p);
@@ -206,7 +157,7 @@ impl Given {
     fn with_entry(mut self, e: BatchEntry) -> Option<Given>
         ensures { result ≡ add_entry self e }
     {
-        if !self.is_open() || MAX_ENTRY_LINES <= self.entries.as_slice().len() {
+        if !self.is_open() || MAX_ENTRY_LINES <= self.entries.len() {
             return None;
         }
         self.entries.push(e);
