@@ -22,7 +22,7 @@ pub fn print_journal_refused(rt: &impl Print, lsn: Lsn, why: Refusal) -> std::io
 
 fn print_prepared(
     rt: &impl Print,
-    prepared: PreparedBatch,
+    prepared: &Result<PreparedBatch, Refusal>,
     commands: &Commands,
 ) -> std::io::Result<()> {
     let mut out = Output::new();
@@ -73,7 +73,7 @@ fn print_shows(
             state,
             store,
             asked.identity,
-            asked.given.batch,
+            asked.given.batch(),
             lent,
             index,
         )?;
@@ -102,8 +102,17 @@ pub fn print_answer(
         recovered
     };
     let lent = &commands.bytes[..];
-    let prepared = lent::prepare_listed(state, store, asked.identity, asked.given.batch, lent);
-    print_prepared(rt, prepared, commands)?;
+    let batch = asked.given.batch();
+    let prepared = lent::prepare_batch(
+        state,
+        store,
+        asked.identity,
+        batch.snapshot,
+        batch.entries,
+        batch.hard_state,
+        lent,
+    );
+    print_prepared(rt, &prepared, commands)?;
     print_shows(rt, state, store, asked, lent, shows)?;
     let minimum = readers::minimum_recovery_lsn(state, store, asked.identity);
     print_minimum(rt, minimum.unwrap_or(None))

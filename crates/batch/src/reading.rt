@@ -4,7 +4,7 @@ use ids::RaftReplicaIdentity;
 use journal::input::Source;
 
 // What was asked.
-#[derive(Clone, Copy)]
+#[derive(Drop)]
 pub struct Asked {
     pub finish: bool,
     pub identity: RaftReplicaIdentity,
@@ -35,9 +35,9 @@ fn read_lines(
         };
         let number = line.wrapping_add(turn);
         let l = batch_text::batch_line(&read, lens).ok_or(number)?;
-        let next = given.with_line(l).ok_or(number)?;
-        keep_show(shows, given.shows, l);
-        given = next;
+        let at = given.shows;
+        given = given.with_line(l).ok_or(number)?;
+        keep_show(shows, at, l);
     }
     Ok(given)
 }

@@ -17,16 +17,16 @@ use text::record;
 type Answer = Option<Result<(), Refusal>>;
 
 // One field of a line, also as a checksum.
-#[derive(Clone, Copy)]
+#[derive(Clone, Copy, Debug, PartialEq, Eq)]
 struct Part {
     field: Field,
     sum: Sum,
 }
 
 // A line so far.
-#[derive(Clone, Copy)]
+#[derive(Clone, Copy, Debug, PartialEq, Eq)]
 struct Line {
-    // the closed fields, of which no question has more than 22: there is no heap to keep any number of them
+    // the closed fields, of which no question has more than 22; an array, since the count goes past it
     fields: [Part; 22],
     // how many are closed; 23 stands for 23 and more
     count: usize,

@@ -100,7 +100,7 @@ pub enum RaftWalRecord {
 }
 
 // A record of the journal; one of no Raft kind has no body.
-#[derive(Clone, Copy, Debug, PartialEq, Eq)]
+#[derive(Clone, Copy, Debug, Default, PartialEq, Eq)]
 pub struct WalRecord {
     pub lsn: Lsn,
     pub body: Option<RaftWalRecord>,

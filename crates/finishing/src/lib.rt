@@ -10,7 +10,7 @@ use ids::Refusal;
 use storage::RecoveredRaftStorage;
 
 // The answer, and the state after it.
-#[derive(Clone, Copy)]
+#[derive(Clone, Copy, Debug, PartialEq, Eq)]
 pub struct Finished {
     pub answer: Result<(), Refusal>,
     pub state: RecoveredRaftStorage,

@@ -45,6 +45,7 @@ impl<'a> Source<'a> {
     fn refill(&mut self) -> bool {
         self.at = 0;
         self.len = 0;
+        // No `for`: a read brings any number of bytes.
         while self.len < self.buffer.len() {
             match self.stdin.read(&mut self.buffer[self.len..]) {
                 Ok(0) => break,

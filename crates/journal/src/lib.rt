@@ -5,7 +5,9 @@
 pub mod input;
 
 ghost use Rattle.std.specs.Prelude.{◌≡◌, ◌≤◌, ◌<◌, false};
+ghost use Rattle.arrayvec.specs.ArrayVec.{array_vec_len};
 
+use arrayvec::ArrayVec;
 use codec::WalRecord;
 use ids::{Lsn, Refusal};
 use input::Source;
@@ -22,18 +24,17 @@ pub enum Stop {
 }
 
 // What was recovered, and for who reads on the number of the next line.
-#[derive(Clone, Copy)]
+#[derive(Clone, Copy, Debug, PartialEq, Eq)]
 pub struct Recovered {
     pub state: RecoveredRaftStorage,
     pub line: u64,
 }
 
-// Up to 256 records, of which the first `count` were read, and whether the line behind them cannot be read. There is no heap to keep
-// any number of them.
-#[derive(Clone, Copy)]
+// The records that were read, and whether the line behind them cannot be read: a chunk that ends at such a line has records all the
+// same, so it is no Result.
+#[derive(Drop)]
 pub struct Chunk {
-    pub records: [WalRecord; 256],
-    pub count: usize,
+    pub records: ArrayVec<WalRecord, 256>,
     pub bad: bool,
 }
 
@@ -52,27 +53,18 @@ fn read_commands(source: &mut Source, most: usize, commands: &mut Commands) {
 
 // The next records, at most 256 and at most `most`, up to a line that is missing or cannot be read.
 pub fn read_chunk(source: &mut Source, most: usize, lens: &[u8]) -> Chunk
-    ensures within { result.count ≤ most }
-    ensures some { result.bad ≡ false → 0 < most → 0 < result.count }
+    ensures within { array_vec_len result.records ≤ most }
+    ensures some { result.bad ≡ false → 0 < most → 0 < array_vec_len result.records }
 {
-    let blank = WalRecord {
-        lsn: Lsn::ZERO,
-        body: None,
-    };
-    let mut records = [blank; 256];
-    for i in 0..most.min(256) {
+    let mut records = ArrayVec::new();
+    for _ in 0..most.min(256) {
         let Some(r) = source.next_record(lens) else {
-            return Chunk {
-                records,
-                count: i,
-                bad: true,
-            };
+            return Chunk { records, bad: true };
         };
-        records[i] = r;
+        records.push(r);
     }
     Chunk {
         records,
-        count: most.min(256),
         bad: false,
     }
 }
@@ -94,20 +86,17 @@ fn observe_all(
 ) -> Result<Recovered, Stop> {
     let mut state = RecoveredRaftStorage::fresh();
     let mut done: usize = 0;
+    // No `for`: a turn goes on by what its read brought.
     while done < most {
         let chunk = read_chunk(source, most - done, commands.lens());
-        let d = observing::observe_records(
-            state,
-            &chunk.records[..chunk.count.min(256)],
-            &commands.bytes,
-            store,
-        );
+        let records = chunk.records.as_slice();
+        let d = observing::observe_records(state, records, &commands.bytes, store);
         if let Err(why) = d.answer {
-            let lsn = chunk.records.get(d.taken).map_or(Lsn::ZERO, |r| r.lsn);
+            let lsn = records.get(d.taken).map_or(Lsn::ZERO, |r| r.lsn);
             return Err(Stop::Refused { lsn, why });
         }
         state = d.state;
-        done += chunk.count;
+        done += chunk.records.len();
         if chunk.bad {
             return Err(Stop::Malformed(line_behind(2, commands.count, done)));
         }

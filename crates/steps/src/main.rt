@@ -2,8 +2,9 @@
 // state once more when it is finished; or the first line that cannot be read. Nothing is written before all lines were read.
 #![tactic(auto)]
 
+use codec::WalRecord;
+use journal::Recovered;
 use journal::input::Source;
-use journal::{Chunk, Recovered};
 use recovery::observing;
 use storage::RecoveredRaftStorage;
 use tables::Output;
@@ -12,15 +13,14 @@ use text::command::Commands;
 // The records of a chunk; their lines go to `out`.
 fn observe_chunk(
     state: RecoveredRaftStorage,
-    chunk: &Chunk,
+    records: &[WalRecord],
     lent: &[u8],
     store: &mut [u8],
     out: &mut Output<217088>,
 ) -> RecoveredRaftStorage {
     let mut t = state;
-    for i in 0..chunk.count.min(256) {
-        let r = chunk.records[i];
-        let d = observing::observe_record(t, r, lent, store);
+    for r in records {
+        let d = observing::observe_record(t, *r, lent, store);
         t = d.state;
         state_tables::write_step(r.lsn.0, d.answer, r.body, out);
     }
@@ -37,13 +37,14 @@ fn observe_all(
 ) -> Result<Recovered, u64> {
     let mut state = RecoveredRaftStorage::fresh();
     let mut done: usize = 0;
+    // No `for`: a turn goes on by what its read brought.
     while done < most {
         let chunk = journal::read_chunk(source, most - done, commands.lens());
         if chunk.bad {
-            return Err(journal::line_behind(2, commands.count, done + chunk.count));
+            return Err(journal::line_behind(2, commands.count, done + chunk.records.len()));
         }
-        state = observe_chunk(state, &chunk, &commands.bytes, store, out);
-        done += chunk.count;
+        state = observe_chunk(state, chunk.records.as_slice(), &commands.bytes, store, out);
+        done += chunk.records.len();
     }
     let line = journal::line_behind(2, commands.count, most);
     Ok(Recovered { state, line })

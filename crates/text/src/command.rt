@@ -72,7 +72,7 @@ impl Command {
 }
 
 // The commands that are given. There is no heap to keep any number of them: 65 bytes are kept for each of 256.
-#[derive(Clone, Copy)]
+#[derive(Clone, Copy, Debug, PartialEq, Eq)]
 pub struct Commands {
     pub bytes: [u8; 16640],
     // how many bytes each has
