@@ -19,10 +19,10 @@ use Rattle.replay.specs.declared.Observation.TheVariants as O
 use Rattle.replay.specs.Plan.{answer_of}
 use Rattle.storage.specs.declared.RecoveredRaftStorage.{RecoveredRaftStorage}
 use Rattle.storage.specs.Meaning.{recovery_of}
-use Rattle.routing.specs.Observe.{Stepped}
+use Rattle.routing.specs.Observe.{Stepped, stepped}
 use Rattle.soundness.specs.Sound.{sound_test}
 use Rattle.recovery.specs.Runs.{Runs}
-use Rattle.recovery.specs.Steps.{Stepping}
+use Rattle.routing.specs.Admits.{index_in}
 use Rattle.routing.proofs.Ready.{Ready, test_ready}
 use Rattle.recovery.proofs.Running.{Running, running_start, running_takes, running_refused, running_end}
 use Rattle.recovery.proofs.One.{step_means, step_ready}
@@ -61,7 +61,7 @@ module _ (s : RecoveredRaftStorage) (st : List ℕ) (rs : List WalRecord) (lent 
       (ap (λ (n : ℕ). record { taken = n; answer = answer_of b; state = t; store = u }) e)
 
   -- The record at i, and what its step leaves.
-  module _ (lt : i < length rs) (z : WalRecord) (b' : Result Observation Refusal) (t' : RecoveredRaftStorage) (u' : List ℕ) (x : Stepping t u (get_or rs i z) lent b' t' u') where
+  module _ (lt : i < length rs) (z : WalRecord) (b' : Result Observation Refusal) (t' : RecoveredRaftStorage) (u' : List ℕ) (m : index_in (get_or rs i z).body < 18446744073709551616) (x : stepped t u (get_or rs i z) lent ≡ record { answer = answer_of b'; state = t'; store = u' }) where
     abbrev r : WalRecord
     r = get_or rs i z
 
@@ -69,10 +69,10 @@ module _ (s : RecoveredRaftStorage) (st : List ℕ) (rs : List WalRecord) (lent 
     next = record { answer = answer_of b'; state = t'; store = u' }
 
     means : observe (recovery_of t u) (record_of r lent) ≡ out (answer_of b') (recovery_of t' u')
-    means = step_means t u r lent k.running.ready b' t' u' x
+    means = step_means t u r lent k.running.ready b' t' u' m x
 
     ready : Ready t' u'
-    ready = step_ready t u r lent k.running.ready b' t' u' x
+    ready = step_ready t u r lent k.running.ready b' t' u' m x
 
     pub chunk_takes : false ≡ is_err b' → Chunking s st rs lent t' u' (answer_of b') (i + 1)
     chunk_takes e =
@@ -80,12 +80,12 @@ module _ (s : RecoveredRaftStorage) (st : List ℕ) (rs : List WalRecord) (lent 
           eight = k.eight;
           all = k.all;
           sound = k.sound;
-          running = running_takes s st rs lent t u (answer_of b) i k.running z r lt refl next x.model means (taken_answer b' e) ready;
+          running = running_takes s st rs lent t u (answer_of b) i k.running z r lt refl next x means (taken_answer b' e) ready;
           accepted = taken_answer b' e;
         }
 
     pub chunk_refused : true ≡ is_err b' → Runs s st rs lent (record { taken = i; answer = b'; state = t' }) u'
     chunk_refused e =
         let y = refused_answer b' e in
-        running_refused s st rs lent t u (answer_of b) i k.running z r lt refl next x.model means k.eight k.all k.sound y.0 y.1 ready
+        running_refused s st rs lent t u (answer_of b) i k.running z r lt refl next x means k.eight k.all k.sound y.0 y.1 ready
         (record { taken = i; answer = b'; state = t' }) u' refl

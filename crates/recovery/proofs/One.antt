@@ -4,7 +4,7 @@ use Rattle.std.specs.Prelude.{Result, Err}
 use mathlib.Core.Path.{◌≡◌, refl, sym, ap, subst, ◌∙◌}
 use mathlib.Core.Bool.{true, false, true≢false}
 use mathlib.Core.List.{List}
-use Prim.Native.Nat.{ℕ}
+use Prim.Native.Nat.{ℕ, ◌<◌}
 use lib.ListN.{length}
 use Rattle.definition.specs.Recovery.{out, observe}
 use Rattle.ids.specs.declared.Refusal.{Refusal}
@@ -17,31 +17,32 @@ use Rattle.storage.specs.declared.RecoveredRaftStorage.{RecoveredRaftStorage}
 use Rattle.storage.specs.Meaning.{recovery_of}
 use Rattle.soundness.specs.Sound.{sound_test}
 use Rattle.soundness.proofs.Sound.{test_sound}
-use Rattle.routing.specs.Observe.{Stepped}
+use Rattle.routing.specs.Observe.{Stepped, stepped}
+use Rattle.routing.specs.Admits.{index_in}
 use Rattle.routing.proofs.Observe.{unsound_observed}
 use Rattle.routing.proofs.Ready.{Ready, test_ready, ready_test}
 use Rattle.routing.proofs.Stepped.{stepped_is, stepped_ready}
 use Rattle.recovery.specs.Runs.{Observing}
-use Rattle.recovery.specs.Steps.{Stepping}
+use Rattle.recovery.proofs.Turn.{fits_record}
 
 -- What a step leaves means the definition's next state, and is ready for the next one.
 module _ (s : RecoveredRaftStorage) (st : List ℕ) (r : WalRecord) (lent : List ℕ) (ready : Ready s st) (b : Result Observation Refusal) (s' : RecoveredRaftStorage) (st' : List ℕ)
-    (x : Stepping s st r lent b s' st') where
+    (m : index_in r.body < 18446744073709551616) (x : stepped s st r lent ≡ record { answer = answer_of b; state = s'; store = st' }) where
   pub step_means : observe (recovery_of s st) (record_of r lent) ≡ out (answer_of b) (recovery_of s' st')
-  step_means = stepped_is s st r lent ready x.fits ∙ ap (λ (y : Stepped). out y.answer (recovery_of y.state y.store)) x.model
+  step_means = stepped_is s st r lent ready (fits_record r lent m) ∙ ap (λ (y : Stepped). out y.answer (recovery_of y.state y.store)) x
 
   pub step_ready : Ready s' st'
-  step_ready = subst (λ (y : Stepped). Ready y.state y.store) x.model (stepped_ready s st r lent ready x.fits)
+  step_ready = subst (λ (y : Stepped). Ready y.state y.store) x (stepped_ready s st r lent ready (fits_record r lent m))
 
 module _ (s : RecoveredRaftStorage) (st : List ℕ) (r : WalRecord) (lent : List ℕ) (eight : length s.heads ≡ 8) (all : length s.entries ≡ 512) where
-  pub one_observes : sound_test s st ≡ true → (b : Result Observation Refusal) (s' : RecoveredRaftStorage) (st' : List ℕ) → Stepping s st r lent b s' st'
-      → Observing s st r lent (record { answer = b; state = s' }) st'
-  one_observes f b s' st' x =
+  pub one_observes : sound_test s st ≡ true → (b : Result Observation Refusal) (s' : RecoveredRaftStorage) (st' : List ℕ) → index_in r.body < 18446744073709551616
+      → stepped s st r lent ≡ record { answer = answer_of b; state = s'; store = st' } → Observing s st r lent (record { answer = b; state = s' }) st'
+  one_observes f b s' st' m x =
       let ready = test_ready s st eight all f in
       record {
-        model = rw f (sym x.model);
-        means = λ q. step_means s st r lent ready b s' st' x;
-        stays = λ q l. ready_test s' st' (step_ready s st r lent ready b s' st' x) l;
+        model = rw f (sym x);
+        means = λ q. step_means s st r lent ready b s' st' m x;
+        stays = λ q l. ready_test s' st' (step_ready s st r lent ready b s' st' m x) l;
         refused = λ q. absurd (true≢false (sym f ∙ q));
         unsound = λ q. absurd (true≢false (sym (test_sound s st eight all f).whole ∙ q));
       }

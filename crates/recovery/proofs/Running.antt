@@ -159,36 +159,6 @@ module _ (s : RecoveredRaftStorage) (st : List ℕ) (rs : List WalRecord) (lent 
           (k.last ∙ last_is ∙ ap (λ (o : Option ℕ). last_by o x.answer (last_answer x.answer (recovery_of x.state x.store) more)) q)
           ready ed
 
-    -- Another state and store from which its step is the same.
-    pub running_same : (t' : RecoveredRaftStorage) (u' : List ℕ) → stepped t u r lent ≡ stepped t' u' r lent → observe w (record_of r lent) ≡ observe (recovery_of t' u') (record_of r lent)
-        → Ready t' u' → Running t' u' a i
-    running_same t' u' ex eo ready =
-        record {
-          within = k.within;
-          ready = ready;
-          model = k.model ∙ ap (later i) (from_here ∙ sym (ap (λ (l : List WalRecord). ran_from a t' u' l lent) next_is));
-          chunk = k.chunk ∙ ap (later_chunk i) (chunk_here ∙ sym (ap (λ (l : List WalRecord). observe_until_refused (recovery_of t' u') (journal_of l lent)) next_is));
-          last = k.last ∙ last_here ∙ sym (ap (λ (l : List WalRecord). last_answer a (recovery_of t' u') (journal_of l lent)) next_is);
-        }
-      where
-        from_here : ran_from a t u (drop i rs) lent ≡ ran_from a t' u' (r ∷ rest) lent
-        from_here =
-            ap (λ (l : List WalRecord). ran_from a t u l lent) next_is ∙ ran_step a t u r rest lent
-            ∙ ap (λ (y : Stepped). ran_by (refusal_of y.answer) y (ran_from y.answer y.state y.store rest lent)) ex ∙ sym (ran_step a t' u' r rest lent)
-
-        chunk_here : observe_until_refused w (journal_of (drop i rs) lent) ≡ observe_until_refused (recovery_of t' u') (record_of r lent ∷ more)
-        chunk_here =
-            let o : Option ℕ = refusal_of (observe (recovery_of t' u') (record_of r lent)).answer in
-            ap (λ (l : List WalRecord). observe_until_refused w (journal_of l lent)) next_is
-            ∙ chunk_step w (record_of r lent) more o (ap (λ (y : Out Recovery). refusal_of y.answer) eo)
-            ∙ ap (λ (y : Out Recovery). chunk_by o y.next (observe_until_refused y.next more)) eo ∙ sym (chunk_step (recovery_of t' u') (record_of r lent) more o refl)
-
-        last_here : last_answer a w (journal_of (drop i rs) lent) ≡ last_answer a (recovery_of t' u') (record_of r lent ∷ more)
-        last_here =
-            ap (λ (l : List WalRecord). last_answer a w (journal_of l lent)) next_is ∙ last_step a w (record_of r lent) more
-            ∙ ap (λ (y : Out Recovery). last_by (refusal_of y.answer) y.answer (last_answer y.answer y.next more)) eo
-            ∙ sym (last_step a (recovery_of t' u') (record_of r lent) more)
-
   -- All were taken.
   pub running_end : length s.heads ≡ 8 → length s.entries ≡ 512 → sound_test s st ≡ true → (t : RecoveredRaftStorage) (u : List ℕ) (a : D.Answer) (i : ℕ) → Running t u a i → length rs ≤ i
       → refusal_of a ≡ None → (d : ObservedChunk) (st' : List ℕ) → ran_of d st' ≡ record { taken = i; answer = a; state = t; store = u } → Runs s st rs lent d st'

@@ -1,23 +1,20 @@
 -- The parts of observing one record.
 -- Assumes nothing.
-use Rattle.std.specs.Prelude.{◌≡◌, true, cond, List, ℕ, ◌<◌, leb, None, Result, Ok, Err}
+use Rattle.std.specs.Prelude.{◌≡◌, cond, List, ℕ, ◌<◌, leb, None, Result, Ok, Err}
 use Rattle.definition.specs.Table.{first_of}
 use Rattle.definition.specs.Records.{form_rows}
-use Rattle.definition.specs.Two.{fits}
 use Rattle.ids.specs.declared.Lsn.{Lsn}
 use Rattle.ids.specs.declared.RaftReplicaIdentity.{RaftReplicaIdentity}
 use Rattle.ids.specs.declared.Refusal.{Refusal}
 use Rattle.ids.specs.declared.Refusal.TheVariants as R
 use Rattle.codec.specs.declared.RaftWalRecord.{RaftWalRecord}
-use Rattle.codec.specs.declared.WalRecord.{WalRecord}
-use Rattle.codec.specs.Records.{kind_of, owner_of, record_of}
+use Rattle.codec.specs.Records.{kind_of, owner_of}
 use Rattle.view.specs.Model.{empty_header}
-use Rattle.replay.specs.declared.Observation.{Observation}
-use Rattle.replay.specs.Plan.{answer_of, index_of, look_of}
+use Rattle.replay.specs.Plan.{index_of, look_of}
 use Rattle.storage.specs.declared.RecoveredRaftStorage.{RecoveredRaftStorage}
 use Rattle.storage.specs.Meaning.{Linked}
 use Rattle.storage.specs.Model.{head_at, changed_store, opened, opened_store}
-use Rattle.routing.specs.Observe.{Stepped, written, plan_at, stepped}
+use Rattle.routing.specs.Observe.{Stepped, written, plan_at}
 
 -- The place of a replica, and the state and store where it stands there.
 pub record Placed : Type 0 where
@@ -43,8 +40,3 @@ abbrev pub settled : RecoveredRaftStorage → List ℕ → ℕ → RaftWalRecord
 settled s st p k l lent =
     let d = plan_at s st p k l lent in
     record { answer = d.answer; state = written s p (look_of (head_at s p) (index_of k)) d s.scan; store = changed_store st p d.bytes }
-
--- A record is observed as the model has it, and is one of a machine: its index is a 64-bit number.
-pub record Stepping (s : RecoveredRaftStorage) (st : List ℕ) (r : WalRecord) (lent : List ℕ) (a : Result Observation Refusal) (s' : RecoveredRaftStorage) (st' : List ℕ) : Type 0 where
-  pub model : stepped s st r lent ≡ record { answer = answer_of a; state = s'; store = st' }
-  pub fits : fits (record_of r lent) ≡ true

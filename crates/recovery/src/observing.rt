@@ -4,9 +4,11 @@ ghost use Rattle.codec.specs.declared.RaftWalRecord.TheVariants.{Entry, HardStat
 ghost use Rattle.ids.specs.Identity.{identity_of};
 ghost use Rattle.storage.specs.Finding.{found_at};
 ghost use Rattle.storage.specs.Meaning.{Linked};
+ghost use Rattle.routing.specs.Admits.{index_in};
+ghost use Rattle.routing.specs.Observe.{stepped};
 ghost use Rattle.routing.proofs.Ready.{Ready};
 ghost use Rattle.recovery.specs.Runs.{Runs, Observing};
-ghost use Rattle.recovery.specs.Steps.{settled, Settling, placed_by, Stepping};
+ghost use Rattle.recovery.specs.Steps.{settled, Settling, placed_by};
 ghost use Rattle.replay.specs.Plan.{answer_of};
 
 use codec::{
@@ -140,7 +142,8 @@ fn observe_next(
     lent: &[u8],
 ) -> Result<Observation, Refusal>
     requires { Ready t.old store.old }
-    ensures { Stepping t.old store.old r lent.now result t.new store.new }
+    ensures model { stepped t.old store.old r lent.now ≡ record { answer = answer_of result; state = t.new; store = store.new } }
+    ensures fits { index_in r.body < 18446744073709551616 }
 {
     match routing::admit(t.scan, r, lent) {
         Admission::Refused(why) => Err(why),

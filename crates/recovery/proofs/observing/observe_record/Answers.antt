@@ -24,4 +24,4 @@ returns c =
     let a = c.args in
     let eight : length a.state.heads ≡ 8 = search rules in
     let all : length a.state.entries ≡ 512 = search rules in
-    one_observes a.state a.store.now a.r a.lent.now eight all (sym c.is_sound.ensures ∙ c.if-not-is_sound.false) _ _ _ c.observe_next-answer.ensures
+    one_observes a.state a.store.now a.r a.lent.now eight all (sym c.is_sound.ensures ∙ c.if-not-is_sound.false) _ _ _ c.observe_next-answer.ensures.fits c.observe_next-answer.ensures.model

@@ -18,13 +18,13 @@ pub returns-then-is_err : goal.returns-then-is_err
 returns-then-is_err c =
     let a = c.args in
     let l = c.loop-taken in
-    chunk_refused a.state a.store.now a.records.now a.lent.now l.t l.store l.answer l.taken l.invariant c.loop-taken-test.true _ _ _ _ c.observe_next-answer.ensures c.if-is_err.ensures.value
+    chunk_refused a.state a.store.now a.records.now a.lent.now l.t l.store l.answer l.taken l.invariant c.loop-taken-test.true _ _ _ _ c.observe_next-answer.ensures.fits c.observe_next-answer.ensures.model c.if-is_err.ensures.value
 
 pub loop-taken-preserved : goal.loop-taken-preserved
 loop-taken-preserved c =
     let a = c.args in
     let l = c.loop-taken in
-    chunk_takes a.state a.store.now a.records.now a.lent.now l.t l.store l.answer l.taken l.invariant c.loop-taken-test.true _ _ _ _ c.observe_next-answer.ensures c.if-is_err.ensures.value
+    chunk_takes a.state a.store.now a.records.now a.lent.now l.t l.store l.answer l.taken l.invariant c.loop-taken-test.true _ _ _ _ c.observe_next-answer.ensures.fits c.observe_next-answer.ensures.model c.if-is_err.ensures.value
 
 pub returns : goal.returns
 returns c =
