@@ -3,3 +3,4 @@ pub mod Answers
 pub mod Owns
 pub mod Readings
 pub mod Single
+pub mod Sound

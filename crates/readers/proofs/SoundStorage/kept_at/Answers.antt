@@ -1,11 +1,11 @@
--- `kept_at` meets its contract.
+-- `SoundStorage::kept_at` meets its contract.
 use mathlib.Core.Path.{sym}
 use Prim.Native.Nat.{◌*◌}
 use Rattle.store.proofs.Part.{get_d_part}
 use Rattle.view.specs.Meaning.{no_entry}
-use Rattle.readers.proofs.kept_at.Goals as goal
+use Rattle.readers.proofs.SoundStorage.kept_at.Goals as goal
 
 pub returns : goal.returns
 returns c =
     let a = c.args in
-    sym (get_d_part (64 * a.p) 64 a.state.entries a.q no_entry c.requires.1)
+    sym (get_d_part (64 * a.p) 64 a.self.now.state.now.entries a.q no_entry c.requires.1)
