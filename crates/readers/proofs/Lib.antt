@@ -4,3 +4,4 @@ pub mod Owns
 pub mod Readings
 pub mod Single
 pub mod Sound
+pub mod Held

@@ -111,6 +111,7 @@ impl<'a, 's> SoundStorage<'a, 's> {
     }
 
     // Where a replica stands, and its header; an empty one where it is not held.
+    #[tactic(auto, using(crate::proofs::Answers::few_held))]
     fn own(&self, identity: RaftReplicaIdentity) -> Own
         ensures { result ≡ own_for self.now.state.now identity }
     {
@@ -118,6 +119,7 @@ impl<'a, 's> SoundStorage<'a, 's> {
     }
 
     // The entry at place q of replica place p.
+    #[tactic(auto, using(crate::proofs::Held::kept_is))]
     fn kept_at(&self, p: usize, q: usize) -> RecoveredRaftLogEntry
         requires { (p < 8) × (q < 64) }
         ensures { result ≡ get_or (entries_in self.now.state.now p) q no_entry }
@@ -126,6 +128,7 @@ impl<'a, 's> SoundStorage<'a, 's> {
     }
 
     // How many replicas are held.
+    #[tactic(auto, using(crate::proofs::Readings::held_is))]
     pub fn len(&self) -> usize
         ensures { result ≡ length (state_in self.now).replicas }
     {
@@ -136,7 +139,7 @@ impl<'a, 's> SoundStorage<'a, 's> {
     pub fn is_empty(&self) -> bool
         ensures { result ≡ (length (state_in self.now).replicas =? 0) }
     {
-        self.state.held == 0
+        self.len() == 0
     }
 
     // How many records were scanned.
@@ -157,14 +160,17 @@ impl<'a, 's> SoundStorage<'a, 's> {
 
     // The header of a replica; an empty one where it is not held. A pointer is kept with an identity that no meaning tells: the
     // header is the one that stands at its replica's place.
+    #[tactic(auto, using(crate::proofs::Owns::owns, crate::proofs::Readings::replica_read, crate::proofs::Held::held_head))]
     pub fn replica(&self, identity: RaftReplicaIdentity) -> Header
         ensures means { view_of result (entries_in self.now.state.now (place_in self.now.state.now self.now.store.now (identity_of identity))) (bytes_in self.now.store.now (place_in self.now.state.now self.now.store.now (identity_of identity))) ≡ log_for self.now identity }
         ensures own { result ≡ (own_in self.now.state.now identity (place_of (identity_of identity) (state_in self.now).replicas)).head }
     {
-        self.own(identity).head
+        let Own { head, .. } = self.own(identity);
+        head
     }
 
     // The header at a replica place; none past the last held.
+    #[tactic(auto, using(crate::proofs::Answers::few_held, crate::proofs::Readings::past_is, crate::proofs::Readings::place_is_held))]
     pub fn replica_at(&self, place: usize) -> Option<Header>
         ensures means { option_map (λ h. held_of h (entries_in self.now.state.now place) (bytes_in self.now.store.now place)) result ≡ replica_at place (state_in self.now) }
         ensures own { result ≡ (if place <? self.now.state.now.held then Some (head_at self.now.state.now place) else None) }
@@ -218,6 +224,7 @@ impl<'a, 's> SoundStorage<'a, 's> {
     }
 
     // The LSN of the last record that changed a replica's log.
+    #[tactic(auto, using(crate::proofs::Held::held_replayed))]
     pub fn last_replayed_lsn(&self, identity: RaftReplicaIdentity) -> Option<Lsn>
         ensures { lsn_of result ≡ (log_for self.now identity).last_replayed_lsn }
     {
@@ -225,6 +232,7 @@ impl<'a, 's> SoundStorage<'a, 's> {
     }
 
     // The LSN of a replica's first entry.
+    #[tactic(auto, using(crate::proofs::Held::held_low, crate::proofs::Held::held_retained))]
     pub fn first_retained_lsn(&self, identity: RaftReplicaIdentity) -> Option<Lsn>
         ensures { lsn_of result ≡ first_retained_lsn (log_for self.now identity) }
     {
@@ -233,6 +241,7 @@ impl<'a, 's> SoundStorage<'a, 's> {
     }
 
     // The least LSN from which a replica can be recovered.
+    #[tactic(auto, using(crate::proofs::Held::held_low, crate::proofs::Held::held_minimum))]
     pub fn minimum_recovery_lsn(&self, identity: RaftReplicaIdentity) -> Option<Lsn>
         ensures { lsn_of result ≡ minimum_recovery_lsn (log_for self.now identity) }
     {
