@@ -87,7 +87,7 @@ impl<'a> Answer<'a> {
     }
 }
 
-// Of the recovery, finished where that was asked.
+// The recovery, finished where that was asked.
 pub fn print_answer(
     rt: &impl Print,
     recovered: RecoveredRaftStorage,

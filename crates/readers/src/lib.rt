@@ -1,5 +1,5 @@
-// What is read of a recovered state and the store that is lent beside it. Where these are not sound every reader refuses by 1,
-// and no command is shown.
+// What is read of a recovered state and the store that is lent beside it. `SoundStorage` is where they are tested, once for many
+// readers. The functions of the same names test them each time: where they are not sound each refuses by 1, and no command is shown.
 #![tactic(auto)]
 
 ghost use Rattle.std.specs.Prelude.{◌≡◌, ◌<◌, ◌≤◌, true, if◌then◌else◌, length, get_or, slice_get, Option, None, Some, option_map, Ok, Err};
@@ -24,7 +24,7 @@ pub struct Own {
     pub head: Header,
 }
 
-// Whether they are sound. The lengths of the state's arrays are compared so that the proof knows them.
+// Whether they are sound. The lengths of the state's arrays are compared that the proof knows them, of a state by reference.
 fn tested(state: &RecoveredRaftStorage, store: &[u8]) -> bool
     ensures { Passes state.now store.now result }
 {
@@ -86,12 +86,13 @@ pub fn minimum_of(head: Header, first: RecoveredRaftLogEntry) -> Option<Lsn>
     )
 }
 
-// A recovered state and the store that is lent beside it, which are sound: tested once, for every reader.
+// A recovered state and the store that is lent beside it, which are sound. The store has a lifetime of its own: a command that is
+// read of it may outlive the borrow of the state.
 #[derive(Clone, Copy)]
 pub struct SoundStorage<'a, 's> {
     pub state: &'a RecoveredRaftStorage,
     pub store: &'s [u8],
-    ghost sound: { Passes state.now store.now true },
+    pub ghost sound: { Passes state.now store.now true },
 }
 
 impl<'a, 's> SoundStorage<'a, 's> {
