@@ -1,8 +1,7 @@
 // What the program writes.
 use crate::reading::Asked;
-use batches::RaftPersistenceBatch;
-use ids::{Lsn, RaftReplicaIdentity, Refusal};
-use persistence::PreparedBatch;
+use ids::{Lsn, Refusal};
+use readers::SoundStorage;
 use shown::Shown;
 use storage::RecoveredRaftStorage;
 use tables::Output;
@@ -20,22 +19,6 @@ pub fn print_journal_refused(rt: &impl Print, lsn: Lsn, why: Refusal) -> std::io
     rt.write_all(out.as_slice())
 }
 
-fn print_prepared(
-    rt: &impl Print,
-    prepared: &Result<PreparedBatch, Refusal>,
-    commands: &Commands,
-) -> std::io::Result<()> {
-    let mut out = Output::new();
-    batch_tables::write_prepared(
-        prepared,
-        commands.count,
-        &commands.lens,
-        &commands.bytes,
-        &mut out,
-    );
-    rt.write_all(out.as_slice())
-}
-
 fn is_of_batch(at: Option<Shown>) -> bool {
     match at {
         Some(Shown::OfBatch { .. }) => true,
@@ -43,51 +26,71 @@ fn is_of_batch(at: Option<Shown>) -> bool {
     }
 }
 
-fn print_shown(
-    rt: &impl Print,
-    state: RecoveredRaftStorage,
-    store: &[u8],
-    identity: RaftReplicaIdentity,
-    batch: RaftPersistenceBatch,
-    lent: &[u8],
-    index: u64,
-) -> std::io::Result<()> {
-    let at = shown::previewed_at(state, store, identity, batch, lent, index);
-    let bytes = shown::previewed_command(state, store, identity, batch, lent, index);
-    let mut out = Output::new();
-    batch_tables::write_shown(index, is_of_batch(at), bytes, &mut out);
-    rt.write_all(out.as_slice())
+// A recovered state with its store, what is asked of it, and the commands that were given.
+#[derive(Clone, Copy)]
+struct Answer<'a> {
+    state: &'a RecoveredRaftStorage,
+    store: &'a [u8],
+    asked: &'a Asked,
+    commands: &'a Commands,
 }
 
-fn print_shows(
-    rt: &impl Print,
-    state: RecoveredRaftStorage,
-    store: &[u8],
-    asked: &Asked,
-    lent: &[u8],
-    shows: &[u64; 4096],
-) -> std::io::Result<()> {
-    for &index in &shows[..asked.given.shows.min(4096)] {
-        print_shown(
-            rt,
-            state,
-            store,
-            asked.identity,
-            asked.given.batch(),
-            lent,
-            index,
-        )?;
+impl<'a> Answer<'a> {
+    fn print_prepared(&self, rt: &impl Print) -> std::io::Result<()> {
+        let commands = self.commands;
+        let batch = self.asked.given.batch();
+        let prepared = lent::prepare_batch(
+            *self.state,
+            self.store,
+            self.asked.identity,
+            batch.snapshot,
+            batch.entries,
+            batch.hard_state,
+            &commands.bytes,
+        );
+        let mut out = Output::new();
+        batch_tables::write_prepared(
+            &prepared,
+            commands.count,
+            &commands.lens,
+            &commands.bytes,
+            &mut out,
+        );
+        rt.write_all(out.as_slice())
     }
-    Ok(())
+
+    fn print_shown(&self, rt: &impl Print, index: u64) -> std::io::Result<()> {
+        let state = *self.state;
+        let identity = self.asked.identity;
+        let batch = self.asked.given.batch();
+        let lent = &self.commands.bytes;
+        let at = shown::previewed_at(state, self.store, identity, batch, lent, index);
+        let bytes = shown::previewed_command(state, self.store, identity, batch, lent, index);
+        let mut out = Output::new();
+        batch_tables::write_shown(index, is_of_batch(at), bytes, &mut out);
+        rt.write_all(out.as_slice())
+    }
+
+    fn print_shows(&self, rt: &impl Print, shows: &[u64; 4096]) -> std::io::Result<()> {
+        for &index in &shows[..self.asked.given.shows.min(4096)] {
+            self.print_shown(rt, index)?;
+        }
+        Ok(())
+    }
+
+    // Where no minimum recovery LSN can be read there is none.
+    fn print_minimum(&self, rt: &impl Print) -> std::io::Result<()> {
+        let lsn = match SoundStorage::new(self.state, self.store) {
+            Ok(sound) => sound.minimum_recovery_lsn(self.asked.identity),
+            Err(_) => None,
+        };
+        let mut out = Output::new();
+        batch_tables::write_minimum(lsn, &mut out);
+        rt.write_all(out.as_slice())
+    }
 }
 
-fn print_minimum(rt: &impl Print, lsn: Option<Lsn>) -> std::io::Result<()> {
-    let mut out = Output::new();
-    batch_tables::write_minimum(lsn, &mut out);
-    rt.write_all(out.as_slice())
-}
-
-// The recovery, finished where that was asked; where no minimum recovery LSN can be read there is none.
+// The recovery, finished where that was asked.
 pub fn print_answer(
     rt: &impl Print,
     recovered: RecoveredRaftStorage,
@@ -101,19 +104,13 @@ pub fn print_answer(
     } else {
         recovered
     };
-    let lent = &commands.bytes[..];
-    let batch = asked.given.batch();
-    let prepared = lent::prepare_batch(
-        state,
+    let answer = Answer {
+        state: &state,
         store,
-        asked.identity,
-        batch.snapshot,
-        batch.entries,
-        batch.hard_state,
-        lent,
-    );
-    print_prepared(rt, &prepared, commands)?;
-    print_shows(rt, state, store, asked, lent, shows)?;
-    let minimum = readers::minimum_recovery_lsn(state, store, asked.identity);
-    print_minimum(rt, minimum.unwrap_or(None))
+        asked,
+        commands,
+    };
+    answer.print_prepared(rt)?;
+    answer.print_shows(rt, shows)?;
+    answer.print_minimum(rt)
 }

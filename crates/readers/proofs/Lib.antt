@@ -3,3 +3,5 @@ pub mod Answers
 pub mod Owns
 pub mod Readings
 pub mod Single
+pub mod Sound
+pub mod Held

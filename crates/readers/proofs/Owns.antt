@@ -28,8 +28,8 @@ use Rattle.soundness.specs.Sound.{sound_test, Sound}
 use Rattle.soundness.proofs.Sound.{test_linked, test_state, test_sound}
 use Rattle.readers.specs.declared.Own.{Own}
 use Rattle.readers.specs.Own.{Passes, own_in, found_place, own_for, block_of}
-use Rattle.readers.specs.Reads.{Reads, place_in}
-use Rattle.readers.proofs.Answers.{test_passed, reads_whole}
+use Rattle.readers.specs.Reads.{place_in}
+use Rattle.readers.proofs.Answers.{test_passed}
 use Rattle.readers.proofs.Kept.{held_block}
 
 -- What stands at an own place: the log that the definition holds for the replica, within its limits.
@@ -120,7 +120,3 @@ module _ {s : RecoveredRaftStorage} {st : List ℕ} {i : RaftReplicaIdentity} {o
   -- The place is the definition's.
   pub place_in_lem : Owns s st i o → place_in s st (identity_of i) ≡ o.place
   place_in_lem w = own_place s i (place_of (identity_of i) (meaning s st).replicas) ∙ ap (λ (x : Own). x.place) (sym w.stands)
-
-  -- A reader g of a log, at the replica.
-  pub reads_own : {A : Type 0} {r : Result A ℕ} → Owns s st i o → (g : Log ℕ → A) → Ok (g (log_in s st o)) ≡ r → Reads s st (λ t. g (replica_of (identity_of i) t)) r
-  reads_own w g a = reads_whole w.test w.whole (ap (λ (x : Log ℕ). Ok (g x)) (sym w.view) ∙ a)

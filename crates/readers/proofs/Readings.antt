@@ -1,8 +1,7 @@
 -- What is read at a place, of a replica, and of its entries.
 -- Assumes nothing.
-use Rattle.std.specs.Prelude.{Option, None, Some, slice_get, Ok, Err}
+use Rattle.std.specs.Prelude.{Option, None, Some, slice_get}
 use mathlib.Core.Path.{◌≡◌, refl, sym, ap, ◌∙◌}
-use mathlib.Core.Bool.{Bool, true, false, true≢false}
 use mathlib.Core.List.{List, [], ◌∷◌}
 use Prim.Native.Nat.{ℕ, zero, suc, ◌+◌, ◌-◌, ◌*◌, ◌<◌, ◌≤◌}
 use native.Mathlib.Omega.{arith}
@@ -12,7 +11,6 @@ use Rattle.definition.specs.Records.{normal, inside}
 use Rattle.definition.specs.Log as D
 use Rattle.definition.specs.Recovery.{replica_of, replica_at, least, minimum_recovery_lsn, pad_to, command_bytes}
 use Rattle.ids.specs.Identity.{identity_of}
-use Rattle.ids.specs.declared.Refusal.TheVariants as W
 use Rattle.ids.specs.declared.RaftReplicaIdentity.{RaftReplicaIdentity}
 use Rattle.store.specs.Splice.{part}
 use Rattle.store.proofs.Part.{length_part, part_part}
@@ -25,13 +23,12 @@ use Rattle.view.specs.Readers as H
 use Rattle.view.proofs.Tab.{length_tab, get_elem_tab}
 use Rattle.view.proofs.Readers.{at_is, place_is, held_at_lem, first_retained_is}
 use Rattle.storage.specs.declared.RecoveredRaftStorage.{RecoveredRaftStorage}
-use Rattle.storage.specs.Model.{head_at, entries_in, bytes_in}
-use Rattle.storage.specs.Meaning.{held_at, meaning, recovery_of}
+use Rattle.storage.specs.Model.{entries_in, bytes_in}
+use Rattle.storage.specs.Meaning.{held_at, meaning}
 use Rattle.readers.specs.declared.Own.{Own}
-use Rattle.readers.specs.Own.{Passes, minimum_of}
-use Rattle.readers.specs.Reads.{ReadsReplica, ReadsPlace, Shows, read_entry_of, payload_with, entry_with, cell_in, cell_for, command_of, command_at}
-use Rattle.readers.proofs.Answers.{ask_sound, ask_unsound, test_failed, reads_sound, reads_unsound}
-use Rattle.readers.proofs.Owns.{log_in, Owns, place_in_lem, reads_own}
+use Rattle.readers.specs.Own.{minimum_of}
+use Rattle.readers.specs.Reads.{payload_with, entry_with, place_in, cell_in, cell_for, command_of}
+use Rattle.readers.proofs.Owns.{log_in, Owns, place_in_lem}
 use Rattle.ids.specs.declared.Lsn.{Lsn}
 
 -- Of the state.
@@ -40,23 +37,14 @@ unfolding meaning
 held_is s st = length_tab s.held (held_at s st)
 
 -- At a replica place.
-module _ {s : RecoveredRaftStorage} {st : List ℕ} {b : Bool} (k : Passes s st b) {p : ℕ} where
-  pub place_refused : b ≡ false → ReadsPlace s st p (Err W.Unsound)
-  place_refused q = record { reads = reads_unsound k q refl; own = λ t. absurd (true≢false (sym t ∙ test_failed k q)) }
-
-  past_is : s.held ≤ p → replica_at p (meaning s st) ≡ None
+module _ (s : RecoveredRaftStorage) (st : List ℕ) (p : ℕ) where
+  pub past_is : s.held ≤ p → replica_at p (meaning s st) ≡ None
   unfolding replica_at meaning
   past_is l = rw (get_elem_tab s.held (held_at s st) p, le-ltb p s.held l)
 
-  place_is_held : p < s.held → replica_at p (meaning s st) ≡ Some (held_at s st p)
+  pub place_is_held : p < s.held → replica_at p (meaning s st) ≡ Some (held_at s st p)
   unfolding replica_at meaning
   place_is_held l = rw (get_elem_tab s.held (held_at s st) p, lt-ltb p s.held l)
-
-  pub place_past : b ≡ true → s.held ≤ p → ReadsPlace s st p (Ok None)
-  place_past q l = record { reads = reads_sound k q (ap Ok (past_is l)); own = λ t. rw (le-ltb p s.held l) }
-
-  pub place_held : b ≡ true → p < s.held → ReadsPlace s st p (Ok (Some (head_at s p)))
-  place_held q l = record { reads = reads_sound k q (ap Ok (place_is_held l)); own = λ t. rw (lt-ltb p s.held l) }
 
 -- Of a header and the first of its entries.
 module _ (h : Header) (es : List RecoveredRaftLogEntry) (cs : List ℕ) {first : RecoveredRaftLogEntry} (e : first ≡ get_or es 0 no_entry) where
@@ -112,8 +100,8 @@ module _ {s : RecoveredRaftStorage} {st : List ℕ} {i : RaftReplicaIdentity} {o
     at_own l = rw (get_elem_tab o.head.len own q, lt-ltb q o.head.len l)
 
     pub at_held : {e : RecoveredRaftLogEntry} → e ≡ get_or (entries_in s o.place) q no_entry → q < o.head.len
-        → Ok (slice_get (log_in s st o).entries q) ≡ read_entry_of (cell_in s st (identity_of i) q) (Ok (Some e))
-    at_held a l = ap Ok (at_own l ∙ ap Some (kept_with q a l))
+        → slice_get (log_in s st o).entries q ≡ Some (entry_with e (cell_in s st (identity_of i) q))
+    at_held a l = at_own l ∙ ap Some (kept_with q a l)
 
   -- At an index.
   module _ (x : ℕ) where
@@ -137,9 +125,8 @@ module _ {s : RecoveredRaftStorage} {st : List ℕ} {i : RaftReplicaIdentity} {o
           d ∙ sym (place_is o.head (entries_in s o.place) (bytes_in st o.place) x) ∙ ap (λ (l : D.Log ℕ). D.place l x) w.view
 
       module _ {y : RecoveredRaftLogEntry} (a : y ≡ get_or (entries_in s o.place) q no_entry) where
-        pub index_entry : Ok (D.at (log_in s st o) x) ≡ read_entry_of (cell_for s st (identity_of i) x) (Ok (Some y))
-        index_entry =
-            ap Ok (index_held ∙ ap Some (kept_with q a index_below)) ∙ ap (λ (n : ℕ). read_entry_of (cell_in s st (identity_of i) n) (Ok (Some y))) place_is_q
+        pub index_entry : D.at (log_in s st o) x ≡ Some (entry_with y (cell_for s st (identity_of i) x))
+        index_entry = index_held ∙ ap Some (kept_with q a index_below) ∙ ap (λ (n : ℕ). Some (entry_with y (cell_in s st (identity_of i) n))) place_is_q
 
         pub index_command : command_of (D.at (log_in s st o) x) ≡ command_bytes (payload_in y.payload (cell_at st (64 * o.place + q)))
         index_command =
@@ -147,32 +134,5 @@ module _ {s : RecoveredRaftStorage} {st : List ℕ} {i : RaftReplicaIdentity} {o
             ∙ ap (λ (z : RecoveredRaftLogEntry). command_bytes (payload_in z.payload (cell_at (bytes_in st o.place) q))) (sym a)
             ∙ ap (λ (c : List ℕ). command_bytes (payload_in y.payload c)) (cell_in_lem st o.place q w.size w.low (omega (arith, index_below, w.short)))
 
--- The header of a replica, and the command that is shown at an index.
-module _ {s : RecoveredRaftStorage} {st : List ℕ} {b : Bool} (k : Passes s st b) {i : RaftReplicaIdentity} where
-  pub replica_refused : b ≡ false → ReadsReplica s st i (Err W.Unsound)
-  replica_refused q = record { reads = reads_unsound k q refl; own = λ t. absurd (true≢false (sym t ∙ test_failed k q)) }
-
-  pub shows_nothing : {x : ℕ} → b ≡ false → Shows s st (identity_of i) x []
-  shows_nothing {x = x} q =
-      record {
-        means = λ t. absurd (true≢false (sym t ∙ test_failed k q));
-        nothing = λ t. refl;
-        unsound = ask_unsound (command_at (identity_of i) x) (recovery_of s st);
-      }
-
-module _ {s : RecoveredRaftStorage} {st : List ℕ} {i : RaftReplicaIdentity} {o : Own} (w : Owns s st i o) where
-  pub replica_read : ReadsReplica s st i (Ok o.head)
-  replica_read =
-      record {
-        reads = reads_own w (λ (l : D.Log ℕ). l) (ap (λ (p : ℕ). Ok (view_of o.head (entries_in s p) (bytes_in st p))) (sym (place_in_lem w)));
-        own = λ t. ap (λ (x : Own). Ok x.head) w.stands;
-      }
-
-  pub shows_own : {x : ℕ} {shown : List ℕ} → command_of (D.at (log_in s st o) x) ≡ shown → Shows s st (identity_of i) x shown
-  shows_own {x = x} {shown = shown} a =
-      let e : command_at (identity_of i) x (meaning s st) ≡ shown = ap (λ (l : D.Log ℕ). command_of (D.at l x)) (sym w.view) ∙ a in
-      record {
-        means = λ t. ask_sound (command_at (identity_of i) x) (recovery_of s st) w.whole ∙ ap Ok e;
-        nothing = λ t. absurd (true≢false (sym w.test ∙ t));
-        unsound = λ u. absurd (true≢false (sym w.whole ∙ u));
-      }
+  pub replica_read : view_of o.head (entries_in s (place_in s st (identity_of i))) (bytes_in st (place_in s st (identity_of i))) ≡ replica_of (identity_of i) (meaning s st)
+  replica_read = ap (λ (p : ℕ). view_of o.head (entries_in s p) (bytes_in st p)) (place_in_lem w) ∙ w.view

@@ -119,40 +119,49 @@ fn put_entry(out: &mut Output<131072>, index: u64, e: RecoveredRaftLogEntry, sto
     put_payload(out, e.payload, store, k);
 }
 
-// The lines of the entries of replica place p. An index past 64 bits is their largest number.
-#[tactic(auto, using(tables::proofs::Text::lines_step), unfolding(tables::specs::Model::lines_to))]
-fn put_entries(out: &mut Output<131072>, state: RecoveredRaftStorage, store: &[u8], p: usize)
-    requires { (p < 8) × (length out.old + 12928 ≤ 131072) }
-    ensures text { out.new ≡ out.old ++ entries_in state store.now p }
-    ensures short { length out.new ≤ length out.old + 12928 }
-{
-    let h = state.heads[p];
-    let first = h.base();
-    for q in 0..h.len.min(64) {
-        let k = 64 * p + q;
-        put_entry(
-            out,
-            first.saturating_add(q as u64),
-            state.entries[k],
-            store,
-            k,
-        );
-    }
+// A state and the store that is lent beside it. They need not be sound: whatever they hold is written.
+#[derive(Clone, Copy)]
+struct Storage<'a> {
+    state: &'a RecoveredRaftStorage,
+    store: &'a [u8],
 }
 
-// All lines of the replica at place p.
-#[tactic(auto, unfolding(crate::specs::Model::replica_in))]
-fn put_replica(out: &mut Output<131072>, state: RecoveredRaftStorage, store: &[u8], p: usize)
-    requires { (p < 8) × (length out.old + 13618 ≤ 131072) }
-    ensures text { out.new ≡ out.old ++ replica_in state store.now p }
-    ensures short { length out.new ≤ length out.old + 13618 }
-{
-    let h = state.heads[p];
-    replica_line::put_line(out, h, state.entries[64 * p]);
-    if let Some(pointer) = h.snapshot {
-        put_pointer(out, pointer);
+impl<'a> Storage<'a> {
+    // The lines of the entries of replica place p. An index past 64 bits is their largest number.
+    #[tactic(auto, using(tables::proofs::Text::lines_step), unfolding(tables::specs::Model::lines_to))]
+    fn put_entries(&self, out: &mut Output<131072>, p: usize)
+        requires { (p < 8) × (length out.old + 12928 ≤ 131072) }
+        ensures text { out.new ≡ out.old ++ entries_in self.now.state.now self.now.store.now p }
+        ensures short { length out.new ≤ length out.old + 12928 }
+    {
+        let h = self.state.heads[p];
+        let first = h.base();
+        for q in 0..h.len.min(64) {
+            let k = 64 * p + q;
+            put_entry(
+                out,
+                first.saturating_add(q as u64),
+                self.state.entries[k],
+                self.store,
+                k,
+            );
+        }
     }
-    put_entries(out, state, store, p);
+
+    // All lines of the replica at place p.
+    #[tactic(auto, unfolding(crate::specs::Model::replica_in))]
+    fn put_replica(&self, out: &mut Output<131072>, p: usize)
+        requires { (p < 8) × (length out.old + 13618 ≤ 131072) }
+        ensures text { out.new ≡ out.old ++ replica_in self.now.state.now self.now.store.now p }
+        ensures short { length out.new ≤ length out.old + 13618 }
+    {
+        let h = self.state.heads[p];
+        replica_line::put_line(out, h, self.state.entries[64 * p]);
+        if let Some(pointer) = h.snapshot {
+            put_pointer(out, pointer);
+        }
+        self.put_entries(out, p);
+    }
 }
 
 // scanned N last LSN
@@ -169,12 +178,13 @@ fn put_scan(out: &mut Output<131072>, scan: Scan)
 
 // A whole state.
 #[tactic(auto, using(tables::proofs::Text::lines_step), unfolding(tables::specs::Model::lines_to, crate::specs::Model::state_in))]
-pub fn write_state(state: RecoveredRaftStorage, store: &[u8], out: &mut Output<131072>)
-    ensures { out.new ≡ state_in state store.now }
+pub fn write_state(state: &RecoveredRaftStorage, store: &[u8], out: &mut Output<131072>)
+    ensures { out.new ≡ state_in state.now store.now }
 {
     out.clear();
     put_scan(out, state.scan);
+    let storage = Storage { state, store };
     for p in 0..state.held.min(8) {
-        put_replica(out, state, store, p);
+        storage.put_replica(out, p);
     }
 }

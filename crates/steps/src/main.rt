@@ -71,7 +71,7 @@ fn print_malformed(rt: &impl Print, line: u64) -> std::io::Result<()> {
     rt.write_all(out.as_slice())
 }
 
-fn print_state(rt: &impl Print, state: RecoveredRaftStorage, store: &[u8]) -> std::io::Result<()> {
+fn print_state(rt: &impl Print, state: &RecoveredRaftStorage, store: &[u8]) -> std::io::Result<()> {
     let mut out = Output::new();
     state_tables::write_state(state, store, &mut out);
     rt.write_all(out.as_slice())
@@ -79,9 +79,9 @@ fn print_state(rt: &impl Print, state: RecoveredRaftStorage, store: &[u8]) -> st
 
 // The state, and the same when it is finished.
 fn print_states(rt: &impl Print, state: RecoveredRaftStorage, store: &[u8]) -> std::io::Result<()> {
-    print_state(rt, state, store)?;
+    print_state(rt, &state, store)?;
     rt.write_all(b"finished\n")?;
-    print_state(rt, finishing::finish(state, store).state, store)
+    print_state(rt, &finishing::finish(state, store).state, store)
 }
 
 // A record's line has at most 53 bytes, and a journal at most 4,096 records.

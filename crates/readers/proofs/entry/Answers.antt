@@ -1,32 +1,14 @@
 -- `entry` meets its contract.
-use Rattle.std.specs.Prelude.{Ok}
-use mathlib.Core.Path.{refl, sym, ap, ◌∙◌}
-use Prim.Native.Nat.{ℕ}
-use native.Mathlib.Omega.{arith}
-use Rattle.definition.specs.Log.{Log, at}
-use Rattle.readers.proofs.Answers.{few_held, reads_unsound}
-use Rattle.readers.proofs.Owns.{owns, reads_own}
-use Rattle.readers.proofs.Readings.{index_none, index_below, index_entry}
+use Rattle.std.specs.Prelude.{List, ℕ, option_map}
+use Rattle.ids.specs.Identity.{identity_of}
+use Rattle.storage.specs.declared.RecoveredRaftStorage.{RecoveredRaftStorage}
+use Rattle.readers.specs.Reads.{entry_with, cell_for}
+use Rattle.readers.proofs.Sound.{reads_in, reads_refused}
 use Rattle.readers.proofs.entry.Goals as goal
 
-pub returns-then-not-passes : goal.returns-then-not-passes
-returns-then-not-passes c = reads_unsound c.passes.ensures c.if-not-passes.true refl
-
-pub own_of-own-requires : goal.own_of-own-requires
-own_of-own-requires c = few_held c.passes.ensures c.if-not-passes.false
-
-pub returns-in_default : goal.returns-in_default
-returns-in_default c =
-    let w = owns c.passes.ensures c.if-not-passes.false c.own_of-own.ensures in
-    reads_own w (λ (l : Log ℕ). at l c.args.index) (ap Ok (index_none w _ (sym c.place_of.ensures ∙ c.in_default.is)))
-
-pub kept_at-requires : goal.kept_at-requires
-kept_at-requires c =
-    let w = owns c.passes.ensures c.if-not-passes.false c.own_of-own.ensures in
-    let k = index_below w _ (sym c.place_of.ensures ∙ c.in-Some.is) in
-    (w.low, omega (arith, k, w.short))
+pub returns-in_err-new : goal.returns-in_err-new
+returns-in_err-new c = reads_refused c.new.ensures c.in_err-new.was _ c.from_residual.ensures.0 c.from_residual.ensures.1 _
 
 pub returns : goal.returns
 returns c =
-    let w = owns c.passes.ensures c.if-not-passes.false c.own_of-own.ensures in
-    reads_own w (λ (l : Log ℕ). at l c.args.index) (index_entry w _ (sym c.place_of.ensures ∙ c.in-Some.is) c.kept_at.ensures)
+    reads_in c.new.ensures c.in_ok-new.was (λ (p : RecoveredRaftStorage × List ℕ). option_map (λ e. entry_with e (cell_for p.0 p.1 (identity_of c.args.identity) c.args.index)) c.entry.result) c.entry.ensures

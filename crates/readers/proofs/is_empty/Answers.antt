@@ -1,14 +1,9 @@
 -- `is_empty` meets its contract.
-use Rattle.std.specs.Prelude.{Ok}
-use mathlib.Core.Path.{refl, ap}
-use Prim.Native.Nat.{ℕ}
-use Rattle.definition.specs.Table.{◌=?◌}
-use Rattle.readers.proofs.Answers.{reads_sound, reads_unsound}
-use Rattle.readers.proofs.Readings.{held_is}
+use Rattle.readers.proofs.Sound.{reads_opened, reads_refused}
 use Rattle.readers.proofs.is_empty.Goals as goal
 
-pub returns-then-not-passes : goal.returns-then-not-passes
-returns-then-not-passes c = reads_unsound c.passes.ensures c.if-not-passes.true refl
+pub returns-in_err-new : goal.returns-in_err-new
+returns-in_err-new c = reads_refused c.new.ensures c.in_err-new.was _ c.from_residual.ensures.0 c.from_residual.ensures.1 _
 
 pub returns : goal.returns
-returns c = reads_sound c.passes.ensures c.if-not-passes.false (ap (λ (n : ℕ). Ok (n =? 0)) (held_is _ _))
+returns c = reads_opened c.new.ensures c.in_ok-new.was c.is_empty.ensures

@@ -1,19 +1,9 @@
 -- `last_index` meets its contract.
-use Rattle.std.specs.Prelude.{Ok}
-use mathlib.Core.Path.{refl, sym, ap, ◌∙◌}
-use Rattle.definition.specs.Log.{last_index}
-use Rattle.view.proofs.Readers.{last_index_is}
-use Rattle.readers.proofs.Answers.{few_held, reads_unsound}
-use Rattle.readers.proofs.Owns.{owns, reads_own}
+use Rattle.readers.proofs.Sound.{reads_opened, reads_refused}
 use Rattle.readers.proofs.last_index.Goals as goal
 
-pub returns-then-not-passes : goal.returns-then-not-passes
-returns-then-not-passes c = reads_unsound c.passes.ensures c.if-not-passes.true refl
-
-pub own_of-own-requires : goal.own_of-own-requires
-own_of-own-requires c = few_held c.passes.ensures c.if-not-passes.false
+pub returns-in_err-new : goal.returns-in_err-new
+returns-in_err-new c = reads_refused c.new.ensures c.in_err-new.was _ c.from_residual.ensures.0 c.from_residual.ensures.1 _
 
 pub returns : goal.returns
-returns c =
-    let w = owns c.passes.ensures c.if-not-passes.false c.own_of-own.ensures in
-    reads_own w last_index (ap Ok (last_index_is _ _ _ w.indices ∙ sym c.last_index.ensures))
+returns c = reads_opened c.new.ensures c.in_ok-new.was c.last_index.ensures

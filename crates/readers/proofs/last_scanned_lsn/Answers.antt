@@ -1,12 +1,9 @@
 -- `last_scanned_lsn` meets its contract.
-use mathlib.Core.Path.{refl}
-use Rattle.storage.specs.Meaning.{meaning}
-use Rattle.readers.proofs.Answers.{reads_sound, reads_unsound}
+use Rattle.readers.proofs.Sound.{reads_opened, reads_refused}
 use Rattle.readers.proofs.last_scanned_lsn.Goals as goal
 
-pub returns-then-not-passes : goal.returns-then-not-passes
-returns-then-not-passes c = reads_unsound c.passes.ensures c.if-not-passes.true refl
+pub returns-in_err-new : goal.returns-in_err-new
+returns-in_err-new c = reads_refused c.new.ensures c.in_err-new.was _ c.from_residual.ensures.0 c.from_residual.ensures.1 _
 
 pub returns : goal.returns
-unfolding meaning
-returns c = reads_sound c.passes.ensures c.if-not-passes.false refl
+returns c = reads_opened c.new.ensures c.in_ok-new.was c.last_scanned_lsn.ensures

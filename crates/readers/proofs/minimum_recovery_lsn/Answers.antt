@@ -1,23 +1,9 @@
 -- `minimum_recovery_lsn` meets its contract.
-use Rattle.std.specs.Prelude.{Ok}
-use mathlib.Core.Path.{refl, sym, ap, ◌∙◌}
-use native.Mathlib.Omega.{arith}
-use Rattle.definition.specs.Recovery.{minimum_recovery_lsn}
-use Rattle.readers.proofs.Answers.{few_held, reads_unsound}
-use Rattle.readers.proofs.Owns.{owns, reads_own}
-use Rattle.readers.proofs.Readings.{minimum_is}
+use Rattle.readers.proofs.Sound.{reads_opened, reads_refused}
 use Rattle.readers.proofs.minimum_recovery_lsn.Goals as goal
 
-pub returns-then-not-passes : goal.returns-then-not-passes
-returns-then-not-passes c = reads_unsound c.passes.ensures c.if-not-passes.true refl
-
-pub own_of-own-requires : goal.own_of-own-requires
-own_of-own-requires c = few_held c.passes.ensures c.if-not-passes.false
-
-pub kept_at-first-requires : goal.kept_at-first-requires
-kept_at-first-requires c = ((owns c.passes.ensures c.if-not-passes.false c.own_of-own.ensures).low, omega arith)
+pub returns-in_err-new : goal.returns-in_err-new
+returns-in_err-new c = reads_refused c.new.ensures c.in_err-new.was _ c.from_residual.ensures.0 c.from_residual.ensures.1 _
 
 pub returns : goal.returns
-returns c =
-    let w = owns c.passes.ensures c.if-not-passes.false c.own_of-own.ensures in
-    reads_own w minimum_recovery_lsn (ap Ok (minimum_is _ _ _ c.kept_at-first.ensures ∙ sym c.minimum_of.ensures))
+returns c = reads_opened c.new.ensures c.in_ok-new.was c.minimum_recovery_lsn.ensures

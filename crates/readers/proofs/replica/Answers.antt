@@ -1,14 +1,15 @@
 -- `replica` meets its contract.
-use Rattle.readers.proofs.Answers.{few_held}
-use Rattle.readers.proofs.Owns.{owns}
-use Rattle.readers.proofs.Readings.{replica_refused, replica_read}
+use mathlib.Core.Path.{sym, ◌∙◌}
+use mathlib.Core.Bool.{true≢false}
+use Rattle.readers.proofs.Sound.{replica_opened, reads_refused, refused_parts}
 use Rattle.readers.proofs.replica.Goals as goal
 
-pub returns-then-not-passes : goal.returns-then-not-passes
-returns-then-not-passes c = replica_refused c.passes.ensures c.if-not-passes.true
-
-pub own_of-own-requires : goal.own_of-own-requires
-own_of-own-requires c = few_held c.passes.ensures c.if-not-passes.false
+pub returns-in_err-new : goal.returns-in_err-new
+returns-in_err-new c =
+    record {
+      reads = reads_refused c.new.ensures c.in_err-new.was _ c.from_residual.ensures.0 c.from_residual.ensures.1 _;
+      own = λ t. absurd (true≢false (sym t ∙ (refused_parts _ _ c.new.ensures c.in_err-new.was).0));
+    }
 
 pub returns : goal.returns
-returns c = replica_read (owns c.passes.ensures c.if-not-passes.false c.own_of-own.ensures)
+returns c = replica_opened c.new.ensures c.in_ok-new.was c.replica.ensures.means c.replica.ensures.own

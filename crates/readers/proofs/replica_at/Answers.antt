@@ -1,24 +1,15 @@
 -- `replica_at` meets its contract.
-use native.Mathlib.Omega.{arith}
-use Rattle.readers.proofs.Answers.{few_held}
-use Rattle.readers.proofs.Readings.{place_refused, place_past, place_held}
+use mathlib.Core.Path.{sym, ◌∙◌}
+use mathlib.Core.Bool.{true≢false}
+use Rattle.readers.proofs.Sound.{place_opened, reads_refused, refused_parts}
 use Rattle.readers.proofs.replica_at.Goals as goal
 
-pub returns-then-not-passes : goal.returns-then-not-passes
-returns-then-not-passes c = place_refused c.passes.ensures c.if-not-passes.true
-
-pub returns-then-state-place : goal.returns-then-state-place
-returns-then-state-place c = place_past c.passes.ensures c.if-not-passes.false c.if-state-place.true
-
-pub offset_bounds-state-place : goal.offset_bounds-state-place
-offset_bounds-state-place c =
-    let k = few_held c.passes.ensures c.if-not-passes.false in
-    omega (arith, k, c.if-state-place.false)
-
-pub bounds-state-place : goal.bounds-state-place
-bounds-state-place c =
-    let k = few_held c.passes.ensures c.if-not-passes.false in
-    omega (arith, k, c.if-state-place.false)
+pub returns-in_err-new : goal.returns-in_err-new
+returns-in_err-new c =
+    record {
+      reads = reads_refused c.new.ensures c.in_err-new.was _ c.from_residual.ensures.0 c.from_residual.ensures.1 _;
+      own = λ t. absurd (true≢false (sym t ∙ (refused_parts _ _ c.new.ensures c.in_err-new.was).0));
+    }
 
 pub returns : goal.returns
-returns c = place_held c.passes.ensures c.if-not-passes.false c.if-state-place.false
+returns c = place_opened c.new.ensures c.in_ok-new.was c.replica_at.ensures.means c.replica_at.ensures.own

@@ -1,7 +1,7 @@
--- `state_tables::put_entries` meets its contract: one line more.
+-- `state_tables::Storage::put_entries` meets its contract: one line more.
 use Rattle.std.proofs.Common.{arith, append_assoc}
 use Rattle.tables.proofs.Text.{lines_step}
-use Rattle.state_tables.proofs.put_entries.Goals as goal
+use Rattle.state_tables.proofs.Storage.put_entries.Goals as goal
 
 pub loop-q-preserved : goal.loop-q-preserved
 loop-q-preserved c =
