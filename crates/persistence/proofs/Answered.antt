@@ -20,8 +20,12 @@ use Rattle.codec.specs.Records.{body_of, maybe_pointer_of, maybe_hard_state_of}
 use Rattle.storage.specs.declared.RecoveredRaftStorage.{RecoveredRaftStorage}
 use Rattle.storage.specs.Meaning.{meaning, recovery_of}
 use Rattle.readers.specs.declared.Own.{Own}
-use Rattle.readers.specs.Own.{Passes}
-use Rattle.readers.proofs.Answers.{test_failed}
+use Rattle.std.specs.Result.{IsErrAnd}
+use Rattle.std.proofs.lemmas.Result.{err_from_is_err_and}
+use Rattle.soundness.specs.Sound.{sound_test}
+use Rattle.readers.specs.declared.SoundStorage.{SoundStorage}
+use Rattle.readers.specs.Sound.{opened_of, opens}
+use Rattle.readers.proofs.Sound.{Parts, refused_parts, opened_is}
 use Rattle.readers.proofs.Owns.{Owns}
 use Rattle.arrayvec.specs.ArrayVec.{ArrayVec}
 use Rattle.batches.specs.declared.BatchEntry.{BatchEntry}
@@ -82,16 +86,27 @@ ready_says (inl a) e = absurd (none_some (sym e ∙ a.refused))
 ready_says (inr a) e = ap bodies_in a.says ∙ ap (λ (y : M.Prepared). Ok (said_by y)) a.records
 
 module _ {s : RecoveredRaftStorage} {st : List ℕ} {d : RaftReplicaIdentity} (b : RaftPersistenceBatch) (lent : List ℕ) where
-  -- Not sound.
-  pub answers_unsound : {t : Bool} → Passes s st t → t ≡ false → PreparesBatch s st d b lent (Err W.Unsound)
+  answers_unsound : sound_test s st ≡ false → PreparesBatch s st d b lent (Err W.Unsound)
   unfolding answer_of
-  answers_unsound k q =
+  answers_unsound t =
       record {
-        means = λ u. absurd (true≢false (sym u ∙ test_failed k q));
+        means = λ u. absurd (true≢false (sym u ∙ t));
         refused = λ u. refl;
         unsound = λ u. sym (ap bodies_in (prepare_unsound (recovery_of s st) (identity_of d) (batch_of b lent) u));
         places = refl;
       }
+
+  module _ {r : Result SoundStorage Refusal} (e : opened_of r ≡ opens s st) where
+    -- Not sound.
+    pub unsound_refused : {w : Refusal} → r ≡ Err w → (q : Result (ArrayVec PreparedRecord) Refusal) → IsErrAnd q (λ v. v ≡ w) → PreparesBatch s st d b lent q
+    unsound_refused o q a =
+        let p = err_from_is_err_and q a in
+        let k = refused_parts s st e o in
+        subst (PreparesBatch s st d b lent) (sym (p.1 ∙ ap Err (p.2 ∙ k.1))) (answers_unsound k.0)
+
+    -- Sound: what the tested ones answer.
+    pub sound_prepared : {h : SoundStorage} → r ≡ Ok h → {q : Result (ArrayVec PreparedRecord) Refusal} → PreparesBatch h.state.now h.store.now d b lent q → PreparesBatch s st d b lent q
+    sound_prepared o {q = q} k = opened_is e o (λ (p : Parts). PreparesBatch p.0 p.1 d b lent q) k
 
   -- Sound, and tried.
   module _ {o : Own} (w : Owns s st d o) (low : Low o.head b) where

@@ -15,7 +15,7 @@ use codec::{
 };
 use ids::{RaftReplicaIdentity, Refusal};
 use preview::Extended;
-use readers::Own;
+use readers::{Own, SoundStorage};
 use storage::RecoveredRaftStorage;
 use view::RecoveredRaftLogEntry;
 
@@ -96,6 +96,21 @@ fn records_of(identity: RaftReplicaIdentity, batch: RaftPersistenceBatch) -> Pre
     records
 }
 
+// A batch of a replica of a sound state, whose commands stand in the lent bytes: refused, or the records to write. An identity that
+// is not held is tried against an empty replica.
+pub fn prepare_sound(
+    sound: &SoundStorage,
+    identity: RaftReplicaIdentity,
+    batch: RaftPersistenceBatch,
+    lent: &[u8],
+) -> Result<PreparedBatch, Refusal>
+    ensures { PreparesBatch sound.now.state.now sound.now.store.now identity batch.entry lent.now result }
+{
+    let own = sound.own(identity);
+    try_batch(*sound.state, sound.store, own, identity, batch, lent).answer?;
+    Ok(records_of(identity, batch))
+}
+
 // A batch of a replica, whose commands stand in the lent bytes: refused, or the records to write. An identity that is not held is
 // tried against an empty replica.
 pub fn prepare_batch(
@@ -107,10 +122,5 @@ pub fn prepare_batch(
 ) -> Result<PreparedBatch, Refusal>
     ensures { PreparesBatch state store.now identity batch.entry lent.now result }
 {
-    if !readers::passes(state, store) {
-        return Err(Refusal::Unsound);
-    }
-    let own = readers::own_of(state, identity);
-    try_batch(state, store, own, identity, batch, lent).answer?;
-    Ok(records_of(identity, batch))
+    prepare_sound(&SoundStorage::new(&state, store)?, identity, batch, lent)
 }

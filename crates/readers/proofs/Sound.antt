@@ -30,7 +30,7 @@ ok_if : {A : Type 0} (b : Bool) (x y : A) → ◌≡◌ {A = Result A Refusal} (
 ok_if true x y = refl
 ok_if false x y = refl
 
-abbrev Parts : Type 0
+abbrev pub Parts : Type 0
 Parts = RecoveredRaftStorage × List ℕ
 
 module _ (s : RecoveredRaftStorage) (st : List ℕ) where
@@ -55,7 +55,7 @@ module _ (s : RecoveredRaftStorage) (st : List ℕ) where
 module _ {s : RecoveredRaftStorage} {st : List ℕ} {r : Result SoundStorage Refusal} (e : opened_of r ≡ opens s st) where
   -- Where they are sound: what the opened ones give, of any two that are the given ones.
   module _ {h : SoundStorage} (o : r ≡ Ok h) where
-    opened_is : (P : Parts → Type 0) → P (h.state.now, h.store.now) → P (s, st)
+    pub opened_is : (P : Parts → Type 0) → P (h.state.now, h.store.now) → P (s, st)
     opened_is P = subst P (ok_parts s st (h.state.now, h.store.now) (ap opened_of (sym o) ∙ e))
 
     pub reads_in : {A : Type 0} {f : State → A} (x : Parts → A) → x (h.state.now, h.store.now) ≡ f (state_in h) → Reads s st f (Ok (x (s, st)))

@@ -113,7 +113,7 @@ impl<'a, 's> SoundStorage<'a, 's> {
 
     // Where a replica stands, and its header; an empty one where it is not held.
     #[tactic(auto, using(crate::proofs::Answers::few_held))]
-    fn own(&self, identity: RaftReplicaIdentity) -> Own
+    pub fn own(&self, identity: RaftReplicaIdentity) -> Own
         ensures { result ≡ own_for self.now.state.now identity }
     {
         own_at(self.state, identity)

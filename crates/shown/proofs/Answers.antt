@@ -17,8 +17,10 @@ use Rattle.ids.specs.Identity.{identity_of}
 use Rattle.storage.specs.declared.RecoveredRaftStorage.{RecoveredRaftStorage}
 use Rattle.storage.specs.Meaning.{meaning, recovery_of}
 use Rattle.readers.specs.declared.Own.{Own}
-use Rattle.readers.specs.Own.{Passes}
-use Rattle.readers.proofs.Answers.{test_failed}
+use Rattle.soundness.specs.Sound.{sound_test}
+use Rattle.readers.specs.declared.SoundStorage.{SoundStorage}
+use Rattle.readers.specs.Sound.{opened_of, opens}
+use Rattle.readers.proofs.Sound.{Parts, refused_parts, opened_is}
 use Rattle.readers.proofs.Owns.{Owns}
 use Rattle.batches.specs.declared.RaftPersistenceBatch.{RaftPersistenceBatch}
 use Rattle.batches.specs.Meaning.{entries_of, batch_of}
@@ -69,8 +71,8 @@ module _ (s : RecoveredRaftStorage) (st : List ℕ) (i : RaftReplicaIdentity) (b
   previewed_sound w r e = ap shown_for (prepare_sound (recovery_of s st) own batch w ∙ e)
 
   -- State and store are not sound.
-  pub shows_unsound : (t : Bool) → Passes s st t → t ≡ false → ShowsAt s st i b lent index (λ x. x) M.nothing
-  shows_unsound t k q = record { means = λ y. absurd (true≢false (sym y ∙ test_failed k q)); refused = λ y. refl; unsound = previewed_unsound }
+  nothing_unsound : sound_test s st ≡ false → ShowsAt s st i b lent index (λ x. x) M.nothing
+  nothing_unsound t = record { means = λ y. absurd (true≢false (sym y ∙ t)); refused = λ y. refl; unsound = previewed_unsound }
 
   -- They are, and the batch was tried.
   module _ (o : Own) (w : Owns s st i o) (low : Low o.head b) where
@@ -103,3 +105,13 @@ module _ (s : RecoveredRaftStorage) (st : List ℕ) (i : RaftReplicaIdentity) (b
           go (inl a) = absurd (none_some (sym (told_refused d ran (Ok tt) e q) ∙ a.refused))
           go (inr a) =
               preview_shows s st i o w b lent index ran a.next a.stands a.says low ∙ sym (previewed_sound w.whole (Ok a.next) a.says)
+
+module _ {s : RecoveredRaftStorage} {st : List ℕ} {i : RaftReplicaIdentity} {b : RaftPersistenceBatch} {lent : List ℕ} {index : ℕ}
+    {r : Result SoundStorage Refusal} (e : opened_of r ≡ opens s st) where
+  -- State and store are not sound ..
+  pub shows_unsound : {w : Refusal} → r ≡ Err w → ShowsAt s st i b lent index (λ x. x) M.nothing
+  shows_unsound o = nothing_unsound s st i b lent index (refused_parts s st e o).0
+
+  -- .. or they are: what the tested ones show.
+  pub shows_opened : {h : SoundStorage} → r ≡ Ok h → {y : M.Shown} → ShowsAt h.state.now h.store.now i b lent index (λ x. x) y → ShowsAt s st i b lent index (λ x. x) y
+  shows_opened o {y = y} k = opened_is e o (λ (p : Parts). ShowsAt p.0 p.1 i b lent index (λ x. x) y) k

@@ -9,7 +9,7 @@ ghost use Rattle.shown.specs.Shows.{shown_of, ShowsAt, payload_shown, shown_by};
 use batches::{BatchEntry, RaftPersistenceBatch};
 use ids::RaftReplicaIdentity;
 use preview::Preview;
-use readers::Own;
+use readers::{Own, SoundStorage};
 use storage::RecoveredRaftStorage;
 use view::EntryPayload;
 
@@ -70,6 +70,25 @@ pub fn part(bytes: &[u8], at: usize, len: usize) -> &[u8]
     &rest[..len.min(rest.len())]
 }
 
+// Where the command of a previewed index stands, of a sound state: nothing where the preparation is refused, or the index holds no
+// normal command.
+pub fn previewed_sound(
+    sound: &SoundStorage,
+    identity: RaftReplicaIdentity,
+    batch: RaftPersistenceBatch,
+    lent: &[u8],
+    index: u64,
+) -> Option<Shown>
+    ensures { ShowsAt sound.now.state.now sound.now.store.now identity batch.entry lent.now index (λ x. x) (shown_of result) }
+{
+    let own = sound.own(identity);
+    let tried = persistence::try_batch(*sound.state, sound.store, own, identity, batch, lent);
+    match tried.answer {
+        Err(_) => None,
+        Ok(()) => show(own, tried.preview, batch.entries, index),
+    }
+}
+
 // Where the command of a previewed index stands: nothing where state and store are not sound, the preparation is refused, or the
 // index holds no normal command.
 pub fn previewed_at(
@@ -82,15 +101,10 @@ pub fn previewed_at(
 ) -> Option<Shown>
     ensures { ShowsAt state store.now identity batch.entry lent.now index (λ x. x) (shown_of result) }
 {
-    if !readers::passes(state, store) {
+    let Ok(sound) = SoundStorage::new(&state, store) else {
         return None;
-    }
-    let own = readers::own_of(state, identity);
-    let tried = persistence::try_batch(state, store, own, identity, batch, lent);
-    match tried.answer {
-        Err(_) => None,
-        Ok(()) => show(own, tried.preview, batch.entries, index),
-    }
+    };
+    previewed_sound(&sound, identity, batch, lent, index)
 }
 
 // The command of a previewed index: a part of the store or of the lent bytes, an empty part of the store where there is none.

@@ -1,38 +1,9 @@
 -- `prepare_batch` meets its contract.
-use borrow.Author.Rules.{rules}
-use Rattle.readers.proofs.Answers.{few_held}
-use Rattle.readers.proofs.Owns.{owns}
-use Rattle.persistence.proofs.Prepared.{Low}
-use Rattle.persistence.proofs.Tried.{kept, tried_few}
-use Rattle.persistence.proofs.Answered.{answers_unsound, answers_refused, answers_ready, told_refused}
+use Rattle.persistence.proofs.Answered.{unsound_refused, sound_prepared}
 use Rattle.persistence.proofs.prepare_batch.Goals as goal
 
-pub returns-then-not-passes : goal.returns-then-not-passes
-returns-then-not-passes c = answers_unsound c.args.batch c.args.lent.now c.passes.ensures c.if-not-passes.true
-
-pub own_of-own-requires : goal.own_of-own-requires
-own_of-own-requires c = few_held c.passes.ensures c.if-not-passes.false
-
-pub try_batch-requires : goal.try_batch-requires
-try_batch-requires c = kept (owns c.passes.ensures c.if-not-passes.false c.own_of-own.ensures)
-
-pub returns-in_err-try_batch : goal.returns-in_err-try_batch
-returns-in_err-try_batch c =
-    let a = c.args in
-    let w = owns c.passes.ensures c.if-not-passes.false c.own_of-own.ensures in
-    let low : Low c.own_of-own.result.head a.batch = record { head = search (rules, c.own_of-own.type_inv); pointer = λ r e. search (rules, c.well_formed) } in
-    let z = answers_refused a.batch a.lent.now w low _ (told_refused _ _ _ c.try_batch.ensures c.in_err-try_batch.was) in
-    search (rules, z)
-
-pub records_of-requires : goal.records_of-requires
-records_of-requires c =
-    let a = c.args in
-    tried_few a.state a.store.now a.identity a.batch a.lent.now _ (told_refused _ _ _ c.try_batch.ensures c.in_ok-try_batch.was)
+pub returns-in_err-new : goal.returns-in_err-new
+returns-in_err-new c = unsound_refused c.args.batch c.args.lent.now c.new.ensures c.in_err-new.was _ c.from_residual.ensures.1
 
 pub returns : goal.returns
-returns c =
-    let a = c.args in
-    let w = owns c.passes.ensures c.if-not-passes.false c.own_of-own.ensures in
-    let q = told_refused _ _ _ c.try_batch.ensures c.in_ok-try_batch.was in
-    let low : Low c.own_of-own.result.head a.batch = record { head = search (rules, c.own_of-own.type_inv); pointer = λ r e. search (rules, c.well_formed) } in
-    answers_ready a.batch a.lent.now w low _ q c.records_of.ensures
+returns c = sound_prepared c.args.batch c.args.lent.now c.new.ensures c.in_ok-new.was c.prepare_sound.ensures
