@@ -21,7 +21,7 @@ use std::marker::Model;
 use tables::Output;
 
 // The commands that were given, at most 256: how many, the length of each, and the lent bytes, 65 for each. Contracts see the commands
-// and the lent bytes.
+// and the lent bytes. Not text's Commands: a caller of write_prepared may lend parts of any length.
 #[derive(Drop)]
 struct Commands<'a> {
     count: usize,
@@ -50,7 +50,7 @@ impl<'a> Commands<'a> {
     }
 }
 
-// A hex digit, in small letters.
+// A hex digit, in small letters. No Display: the library's is of whole numbers, without the leading zero.
 fn digit(n: u8) -> u8
     requires { n < 16 }
     ensures { result ≡ hex_glyph n }

@@ -30,7 +30,7 @@ fn finish_all(state: RecoveredRaftStorage) -> RecoveredRaftStorage
     t
 }
 
-// Finishing of a state and the store that is lent beside it, of which no byte changes.
+// Finishing of a state and the store that is lent beside it, of which no byte changes. By value: the state goes on.
 pub fn finish(state: RecoveredRaftStorage, store: &[u8]) -> Finished
     ensures { Finishes state store.now result }
 {

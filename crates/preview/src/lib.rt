@@ -11,8 +11,8 @@ use ids::{Lsn, RaftReplicaIdentity, Refusal};
 use replay::Change;
 use view::{Header, RecoveredRaftLogEntry};
 
-// The log as the entries so far would leave it, and the LSN of the last of them. The commands stand in a block of 4,096 bytes
-// that is lent beside it.
+// The log as the entries so far would leave it, and the LSN of the last of them. Entries stand in places as in a state (document 01),
+// as many as the header says; their commands in a block of 4,096 bytes that is lent beside it.
 #[derive(Clone, Copy, Debug, PartialEq, Eq)]
 pub struct Preview {
     pub head: Header,

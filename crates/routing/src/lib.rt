@@ -37,7 +37,8 @@ fn check_scan(scan: Scan, lsn: Lsn) -> Result<(), Refusal>
     }
 }
 
-// What a record is before its replica is looked for, with the scan that counts it.
+// What a record is before its replica is looked for, with the scan that counts it. A refusal may come with or without that scan, so
+// as Results one within the other it is no plainer.
 #[derive(Clone, Copy, Debug, PartialEq, Eq)]
 pub enum Admission {
     Refused(Refusal),

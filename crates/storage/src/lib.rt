@@ -20,7 +20,7 @@ pub struct Scan {
     pub last_scanned_lsn: Option<Lsn>,
 }
 
-// The replicas held, in places that ascend by identity. Entry place q of replica place p is entries[64 * p + q]; its command's
+// The replicas held, in places that ascend by identity: ordered places in arrays, by document 01. Entry place q of replica place p is entries[64 * p + q]; its command's
 // bytes are store[4096 * p + 64 * q ..].
 #[derive(Clone, Copy, Debug, PartialEq, Eq)]
 pub struct RecoveredRaftStorage {

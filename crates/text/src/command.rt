@@ -15,7 +15,7 @@ pub struct Command {
     pub digits: usize,
     // the last digit
     pub half: u8,
-    // whether it has hex digits only
+    // whether it has hex digits only; a flag, since the contract says what the other fields are of a line that has others too
     pub hex: bool,
 }
 
@@ -71,7 +71,8 @@ impl Command {
     }
 }
 
-// The commands that are given. There is no heap to keep any number of them: 65 bytes are kept for each of 256.
+// The commands that are given. There is no heap to keep any number of them: 65 bytes are kept for each of 256. The bytes are lent
+// as they lie, so they are an array with a count, no list of commands.
 #[derive(Clone, Copy, Debug, PartialEq, Eq)]
 pub struct Commands {
     pub bytes: [u8; 16640],

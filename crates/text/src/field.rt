@@ -10,7 +10,7 @@ use ids::ReplicaId;
 // What a field is so far.
 #[derive(Clone, Copy, Debug, PartialEq, Eq)]
 pub struct Field {
-    // its bytes; 17 stands for 17 and more
+    // its bytes; 17 stands for 17 and more, so the length goes past the 16 that are kept
     pub len: usize,
     // the first 16 of them
     pub word: [u8; 16],

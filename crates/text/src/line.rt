@@ -7,6 +7,7 @@ ghost use Rattle.text.specs.Line.{blank_line, closed, pushed, fed, piece, newlin
 use crate::field::{Field, Sum};
 
 // What a line is so far. A line has as many fields as it likes; there is no heap to keep them all, and no form has more than 12.
+// An array with a count: a field that is not there reads as the blank one, and the count goes past the 12.
 #[derive(Clone, Copy, Debug, PartialEq, Eq)]
 pub struct Line {
     // the closed fields

@@ -311,7 +311,8 @@ pub fn decide_entry(
     replay(h, existing, prior, index, term)
 }
 
-// An entry of a batch (25 to 32).
+// An entry of a batch (25 to 32). Beside decide_entry: another bound and another refusal come first, and as parameters of one function
+// they are no plainer.
 pub fn decide_replay(
     h: Header,
     existing: Option<Existing>,
