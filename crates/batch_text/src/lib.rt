@@ -2,7 +2,7 @@
 // entries, at most one hard state, and the indices whose commands are to be shown.
 #![tactic(auto, unfolding(crate::specs::Line::finish_on, crate::specs::Line::identity_on, crate::specs::Line::line_on, crate::specs::Order::add_pointer, crate::specs::Order::add_entry, crate::specs::Order::add_hard_state, crate::specs::Order::add_show))]
 
-ghost use Rattle.std.specs.Prelude.{◌≡◌, ◌<◌, [], ◌∷◌, ◌++◌, length};
+ghost use Rattle.std.specs.Prelude.{◌≡◌, ◌<◌, [], ◌∷◌, ◌++◌};
 ghost use Rattle.batch_text.specs.Line.{finish_on, identity_on, snapshot_on, hard_state_on, entry_on, line_on};
 ghost use Rattle.batch_text.specs.Order.{no_batch, is_open, add_pointer, add_entry, add_hard_state, add_show, added};
 

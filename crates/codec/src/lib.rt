@@ -2,12 +2,12 @@
 #![tactic(auto, unfolding(definition::specs::Records::form_rows, definition::specs::Log::hard_state_successor_rows, definition::specs::Log::validate_hard_state_successor, definition::specs::Log::snapshot_successor_rows, definition::specs::Log::validate_snapshot_successor))]
 
 ghost use Rattle.std.specs.Prelude.{◌≡◌, List, ℕ};
-ghost use Rattle.definition.specs.Table.{first_of, if_some};
-ghost use Rattle.definition.specs.Records.{command_of, normal, unfit as isUnfit, zero_configuration_replica, zero_version, zero_vote, same_checksum, form_rows};
-ghost use Rattle.definition.specs.Log.{hard_state_successor_rows, validate_hard_state_successor, same_pointer_record, validate_snapshot_successor};
+ghost use Rattle.definition.specs.Table.{first_of};
+ghost use Rattle.definition.specs.Records.{command_of, normal, unfit as isUnfit, zero_configuration_replica, zero_version, zero_vote, form_rows};
+ghost use Rattle.definition.specs.Log.{hard_state_successor_rows, validate_hard_state_successor, validate_snapshot_successor};
 ghost use Rattle.ids.specs.Identity.{identity_of};
 ghost use Rattle.ids.specs.Refusal.{checked_of};
-ghost use Rattle.codec.specs.Records.{payload_of, hard_state_of, maybe_hard_state_of, checksum_of, pointer_of, pointer_record_of, maybe_pointer_of, entry_kind_of, field_rows, hard_state_kind_of, pointer_kind_of, kind_of, owner_of, body_rows, record_of};
+ghost use Rattle.codec.specs.Records.{payload_of, hard_state_of, maybe_hard_state_of, pointer_record_of, maybe_pointer_of, entry_kind_of, field_rows, hard_state_kind_of, pointer_kind_of, kind_of, owner_of, body_rows, record_of};
 
 use ids::{Lsn, RaftReplicaIdentity, Refusal, ReplicaId};
 

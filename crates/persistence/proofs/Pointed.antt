@@ -4,9 +4,7 @@ use Rattle.std.specs.Prelude.{Option, None, Some, Result, Ok, Err}
 use mathlib.Core.Path.{◌≡◌, refl, sym, ap, subst, ◌∙◌}
 use mathlib.Core.List.{List, [], ◌∷◌, ◌++◌}
 use Prim.Native.Nat.{ℕ, ◌+◌, ◌<◌, ◌≤◌}
-use native.Mathlib.Omega.{arith}
-use borrow.Author.Tests.{leb-false, ltb-false}
-use lib.ListN.{length}
+use borrow.Author.Tests.{leb-false}
 use Rattle.definition.specs.Table.{Row, first_of, u64_max}
 use Rattle.definition.specs.Records.{Identity}
 use Rattle.definition.specs.Log as D
@@ -28,11 +26,10 @@ use Rattle.batches.specs.declared.RaftPersistenceBatch.{RaftPersistenceBatch}
 use Rattle.preview.specs.declared.Extended.{Extended}
 use Rattle.preview.specs.declared.Preview.{Preview}
 use Rattle.batches.specs.Checks.{lsn_exhausted, pointer_form_rows, pointer_rows, hard_state_rows, term_rows}
-use Rattle.batches.specs.Meaning.{entries_of, batch_of}
+use Rattle.batches.specs.Meaning.{batch_of}
 use Rattle.preview.specs.Preview.{Ran, ran_of, ran, formed_by, onward, extend_over, Sits}
 use Rattle.persistence.specs.Prepare.{held_at, moved_down, pointed_with, point_ran, hard_header, hardened_with, harden_ran, conclude_ran, point_in, harden_in, followed, lastly_ran, entries_ran, pointed_ran, prepare_ran}
 use Rattle.persistence.specs.Prepares.{Stands}
-use Rattle.batches.proofs.Entries.{entries_count}
 use Rattle.persistence.proofs.Prepared.{point_next}
 
 -- The pointer.

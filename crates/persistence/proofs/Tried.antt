@@ -7,8 +7,8 @@ use mathlib.Core.List.{List}
 use Prim.Native.Nat.{ℕ, ◌+◌, ◌-◌, ◌*◌, ◌≤◌}
 use native.Mathlib.Omega.{arith}
 use borrow.Author.Tests.{ltb-false}
-use lib.ListN.{length, get_or, take, drop, replicate}
-use Rattle.definition.specs.Table.{Row, first_of, u64_max}
+use lib.ListN.{length, take, drop, replicate}
+use Rattle.definition.specs.Table.{Row, first_of}
 use Rattle.definition.specs.Records.{Identity}
 use Rattle.definition.specs.Log as D
 use Rattle.definition.specs.Recovery.{Recovery, replica_of, sound}

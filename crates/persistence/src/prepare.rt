@@ -5,11 +5,9 @@ ghost use Rattle.definition.specs.Table.{first_of, or_zero};
 ghost use Rattle.ids.specs.Identity.{identity_of};
 ghost use Rattle.view.specs.Meaning.{lsn_of};
 ghost use Rattle.view.specs.Model.{maximum_term};
-ghost use Rattle.view.specs.Readers.{place_of};
-ghost use Rattle.replay.specs.Plan.{held_term_in};
 ghost use Rattle.batches.specs.Checks.{term_rows};
 ghost use Rattle.preview.specs.Preview.{ran_of, Sits};
-ghost use Rattle.persistence.specs.Prepare.{held_at, moved_down, point_ran, hard_header, harden_ran, point_in, harden_in, lastly_ran, entries_ran, pointed_ran, beginning, prepare_ran};
+ghost use Rattle.persistence.specs.Prepare.{held_at, moved_down, point_ran, harden_ran, point_in, harden_in, lastly_ran, entries_ran, pointed_ran, beginning, prepare_ran};
 
 use batches::{RaftPersistenceBatch, batch, hard_state, pointer};
 use codec::{HardState, RaftSnapshotPointerRecord};

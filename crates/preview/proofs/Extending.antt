@@ -5,9 +5,9 @@ use Rattle.std.specs.Prelude.{Option, None, Some, Result, Err}
 use mathlib.Core.Path.{◌≡◌, refl, sym, ap, subst, ◌∙◌}
 use mathlib.Core.Logic.{inl, inr}
 use mathlib.Core.List.{List, [], ◌∷◌, append_assoc, append-nil}
-use Prim.Native.Nat.{ℕ, suc, ◌+◌, ◌≤◌}
+use Prim.Native.Nat.{ℕ, ◌+◌, ◌≤◌}
 use Rattle.definition.specs.Table.{Row, first_of, u64_max}
-use Rattle.definition.specs.Records.{Identity, LogEntry, entry}
+use Rattle.definition.specs.Records.{Identity, entry}
 use Rattle.definition.specs.Log as D
 use Rattle.definition.specs.Batch as M
 use Rattle.ids.specs.declared.RaftReplicaIdentity.{RaftReplicaIdentity}

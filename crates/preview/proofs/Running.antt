@@ -4,7 +4,7 @@ use Rattle.std.specs.Prelude.{Option, None, Some, Result, Ok, Err}
 use mathlib.Core.Path.{◌≡◌, refl, sym, ap, ◌∙◌}
 use mathlib.Core.Bool.{Bool, true, false, ◌&&◌}
 use mathlib.Core.List.{List, []}
-use Prim.Native.Nat.{ℕ, suc, ◌+◌, ◌-◌, ◌<◌, ◌≤◌}
+use Prim.Native.Nat.{ℕ, ◌+◌, ◌-◌, ◌<◌, ◌≤◌}
 use native.Mathlib.Omega.{arith}
 use native.Mathlib.Numerals.{add-one}
 use borrow.Author.Tests.{eqb-true, eq-eqb, le-leb, lt-ltb}
@@ -93,9 +93,6 @@ module _ (d : RaftReplicaIdentity) (es : List BatchEntry) (lent : List ℕ) wher
     pub sits : Sits p cs
     pub whole : extend_over d es lent p₀ cs₀ ≡ left i p cs
     pub long : length cs ≡ length cs₀
-
-  pub run_start : (p : Preview) (cs : List ℕ) → Sits p cs → Running p cs p cs (Ok tt) 0
-  run_start p cs s = record { ready = refl; sits = s; whole = refl; long = refl }
 
   module _ (p₀ : Preview) (cs₀ : List ℕ) (p : Preview) (cs : List ℕ) (o : Result (Unit {0}) Refusal) (i : ℕ) (k : Running p₀ cs₀ p cs o i) where
     -- all were taken

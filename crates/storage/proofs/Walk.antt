@@ -1,12 +1,12 @@
 -- Lists that are walked: what is next, by index. Any element, any width.
 -- Assumes nothing.
-use mathlib.Core.Path.{◌≡◌, sym, ap, ◌∙◌}
+use mathlib.Core.Path.{◌≡◌, ap, ◌∙◌}
 use mathlib.Core.List.{List, [], ◌∷◌, ◌++◌}
 use Prim.Native.Nat.{ℕ, suc, ◌+◌, ◌*◌, ◌<◌, ◌≤◌}
 use native.Mathlib.Nat.{add-zero}
 use native.Mathlib.Omega.{arith}
-use lib.ListN.{length, get_or, set, take, drop}
-use lib.Seq.{get_or-drop, drop-drop, take_all, take-suc, take-suc-set}
+use lib.ListN.{get_or, drop}
+use lib.Seq.{get_or-drop, drop-drop}
 
 module _ {A : Type 0} where
   pub get_d_next : (l : List A) (i : ℕ) (z : A) → get_or (drop 1 l) i z ≡ get_or l (suc i) z
@@ -25,16 +25,3 @@ module _ {A : Type 0} where
   -- and past block p, blocks of w
   pub past : (w : ℕ) (l : List A) (p : ℕ) → drop w (drop (w * p) l) ≡ drop (w * (p + 1)) l
   past w l p = let e : w * p + w ≡ w * (p + 1) = omega arith in drop-drop w (w * p) l ∙ ap (λ (x : ℕ). drop x l) e
-
--- A list that is filled from another: the first p are the other's.
-module _ {A : Type 0} (from l : List A) where
-  abbrev pub Filled : ℕ → Type 0
-  Filled p = take p l ≡ take p from
-
-  pub filled_all : (p : ℕ) → length l ≤ p → length from ≤ p → Filled p → l ≡ from
-  filled_all p h k e = sym (take_all p l h) ∙ e ∙ take_all p from k
-
-pub fill_turn : {A : Type 0} (from l : List A) (p : ℕ) (z v : A) → p < length l → p < length from → v ≡ get_or from p z → Filled from l p → Filled from (set l p v) (p + 1)
-fill_turn {A} from l p z v h k f e =
-    let n : p + 1 ≡ suc p = omega arith in
-    rw n (take-suc-set l p v h ∙ (λ i. e i ++ (f i ∷ [])) ∙ sym (take-suc from p z k))

@@ -1,18 +1,18 @@
 // One replica's log: what is kept of it, what is read of it, and what it refuses (24 to 42).
 #![tactic(auto, unfolding(crate::specs::Meaning::view_of, definition::specs::Log::hard_state_successor_rows, definition::specs::Log::snapshot_successor_rows, definition::specs::Log::validate_snapshot_successor))]
 
-ghost use Rattle.std.specs.Prelude.{◌≡◌, ◌&&◌, List, ℕ, ◌+◌, ◌-◌, ◌*◌, ◌≤◌, max, length};
+ghost use Rattle.std.specs.Prelude.{◌≡◌, ◌&&◌, ℕ, ◌+◌, ◌-◌, ◌*◌, ◌≤◌, max, length};
 ghost use Rattle.definition.specs.Table.{◌=?◌, ◌≠?◌, ◌<?◌, first_of};
-ghost use Rattle.definition.specs.Records.{Identity, configuration, change_number, same_payload};
+ghost use Rattle.definition.specs.Records.{Identity, configuration, same_payload};
 ghost use Rattle.definition.specs.Log.{appended};
 ghost use Rattle.definition.specs.Recovery.{command_bytes};
 ghost use Rattle.ids.specs.Refusal.{checked_of};
 ghost use Rattle.store.specs.Splice.{part, splice};
-ghost use Rattle.codec.specs.Records.{change_of, payload_of};
+ghost use Rattle.codec.specs.Records.{payload_of};
 ghost use Rattle.view.specs.Meaning.{payload_in, cell_at, size_of, after_of, base_of};
 ghost use Rattle.view.specs.Model.{empty_header, with_entry, with_commit, with_hard_state, with_hard_at, unvoted_hard, raised_from, raised_hard, covered_by, with_pointer, normalized_from, normalized_hard, maximum_term, finished};
 ghost use Rattle.view.specs.Kept.{kept_payload, kept_entry, cell_for, existing_of, Comparable, Writable};
-ghost use Rattle.view.specs.Decisions.{outcome_of, answered, new_rows, held_rows, held_from, accepted_held, replayed, entry_answer, replay_answer, hard_state_rows_of, follow_rows_of, successor_rows_of, install_rows_of, pointer_rows_of};
+ghost use Rattle.view.specs.Decisions.{outcome_of, answered, new_rows, held_rows, held_from, accepted_held, replayed, entry_answer, replay_answer, hard_state_rows_of, successor_rows_of, install_rows_of, pointer_rows_of};
 ghost use Rattle.view.specs.Readers.{first_index_of, boundary_of, last_entry_of, last_index_of, last_of, place_of, first_retained_of};
 
 use codec::{

@@ -4,7 +4,7 @@ use mathlib.Core.Path.{◌≡◌, sym, ap, ◌∙◌}
 use borrow.Author.Rules.{rules}
 use borrow.Author.Count.{below_more}
 use Rattle.preview.specs.Preview.{within, spot_of}
-use Rattle.preview.proofs.Running.{spot_found, spot_missing, run_start, run_end, run_formed, run_takes, run_refused, run_next}
+use Rattle.preview.proofs.Running.{spot_found, spot_missing, run_end, run_formed, run_takes, run_refused, run_next}
 use Rattle.preview.proofs.extend.Goals as goal
 use Rattle.preview.proofs.extend.Goals.{else-loop-k-test, then-loop-k-test+then-holds}
 
