@@ -127,12 +127,12 @@ module _ {s : RecoveredRaftStorage} {st : List ℕ} {d : RaftReplicaIdentity} (b
 
     pub answers_refused : (why : Refusal) → ran.refused ≡ Some (number_of why) → PreparesBatch s st d b lent (Err why)
     unfolding answer_of
-    answers_refused why q = sound_answer (Err why) (sym (ap bodies_in (refusal_says (tried w b lent low) q))) refl
+    answers_refused why q = sound_answer (Err why) (sym (ap bodies_in (refusal_says (tried w b lent (inr low)) q))) refl
 
     pub answers_ready : (l : ArrayVec PreparedRecord) → ran.refused ≡ None → l.items ≡ records_in d b → PreparesBatch s st d b lent (Ok l)
     unfolding answer_of
     answers_ready l q e =
-        sound_answer (Ok l) (ap (λ (x : List PreparedRecord). Ok (bodies_of lent x)) e ∙ ap Ok (records_mean d b lent) ∙ sym (ready_says (tried w b lent low) q))
+        sound_answer (Ok l) (ap (λ (x : List PreparedRecord). Ok (bodies_of lent x)) e ∙ ap Ok (records_mean d b lent) ∙ sym (ready_says (tried w b lent (inr low)) q))
         (ap (λ (x : List PreparedRecord). Ok (record { items = x })) e)
 
 -- What was tried is told by the answer.

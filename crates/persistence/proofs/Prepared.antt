@@ -1,6 +1,6 @@
 -- The pointer, the hard state and the terms of a batch do to a preview what the definition says, and so does the whole preparation.
 -- Assumes nothing.
-use Rattle.std.specs.Prelude.{Option, None, Some, option_map, Result, Ok}
+use Rattle.std.specs.Prelude.{◌⊎◌, Option, None, Some, option_map, Result, Ok}
 use mathlib.Core.Path.{◌≡◌, refl, sym, ap, subst, ◌∙◌}
 use mathlib.Core.Logic.{inl, inr}
 use mathlib.Core.List.{List, [], ◌∷◌, ◌++◌, append-nil}
@@ -31,13 +31,13 @@ use Rattle.replay.proofs.Settled.{look_held}
 use Rattle.batches.specs.declared.RaftPersistenceBatch.{RaftPersistenceBatch}
 use Rattle.preview.specs.declared.Preview.{Preview}
 use Rattle.batches.specs.Checks.{pointer_rows, hard_state_rows, term_rows}
-use Rattle.batches.specs.Meaning.{entries_of, batch_of}
+use Rattle.batches.specs.Meaning.{blank, entries_of, batch_of}
 use Rattle.preview.specs.Preview.{Ran, ran, formed_by, onward, extend_over}
 use Rattle.preview.specs.Extends.{records_of, Ends, Extends}
 use Rattle.persistence.specs.Prepare.{held_at, pointed_with, point_ran, hardened_with, harden_ran, conclude_ran, point_in, harden_in, followed, lastly_ran, entries_ran, pointed_ran, beginning, prepare_ran}
 use Rattle.persistence.specs.Prepares.{Stands, Steps, pointer_records, hard_state_records, batch_records, Prepares}
 use Rattle.batches.proofs.Rows.{pointer_rows_lem, hard_state_means, term_means}
-use Rattle.preview.proofs.Extending.{refused_by, passed_by, extends}
+use Rattle.preview.proofs.Extending.{Bounded, refused_by, passed_by, extends}
 
 formed_is : (o : Option ℕ) (p : Preview) (cs : List ℕ) (q : Preview) (ds : List ℕ) → (formed_by o p cs (ran None q ds)).refused ≡ o
 formed_is None p cs q ds = refl
@@ -221,8 +221,8 @@ module _ (i : Identity) (b : RaftPersistenceBatch) (lent : List ℕ) (k : Header
     unfolding lastly_ran
     lastly = lastly_of b.hard_state
 
-  -- The entries before that, on a log whose boundary has 64 bits.
-  module _ (d : RaftReplicaIdentity) (p : Preview) (cs : List ℕ) (v : M.Preview) (m : Means p.head p.entries cs v.log) (at : v.lsn ≡ p.lsn) (low : v.log.snapshot_index ≤ u64_max) where
+  -- The entries before that.
+  module _ (d : RaftReplicaIdentity) (p : Preview) (cs : List ℕ) (v : M.Preview) (m : Means p.head p.entries cs v.log) (at : v.lsn ≡ p.lsn) (bounded : Bounded b.entries.now v.log) where
     abbrev es : List M.BatchEntry
     es = entries_of b.entries.now lent
 
@@ -245,16 +245,20 @@ module _ (i : Identity) (b : RaftPersistenceBatch) (lent : List ℕ) (k : Header
 
     pub entries_prepare : Prepares (entries_ran d b kept lent p cs) all (M.extended i asking before es v)
     unfolding entries_ran
-    entries_prepare = entries_go (extends i asking before d lent b.entries.now p cs v m at low)
+    entries_prepare = entries_go (extends i asking before d lent b.entries.now p cs v m at bounded)
 
 -- The boundary that is kept, and a batch's pointer's, have 64 bits.
 pub record Low (h : Header) (b : RaftPersistenceBatch) : Type 0 where
   pub head : h.snapshot_index ≤ u64_max
   pub pointer : (r : RaftSnapshotPointerRecord) → b.snapshot ≡ Some r → r.last_included_index ≤ u64_max
 
+-- Indices of 64 bits: the entries', or these.
+abbrev pub Bounds : Header → RaftPersistenceBatch → Type 0
+Bounds h b = ((k : ℕ) → (get_or b.entries.now k blank).index ≤ u64_max) ⊎ Low h b
+
 -- The whole, on what is kept of the replica.
 module _ (d : RaftReplicaIdentity) (b : RaftPersistenceBatch) (lent : List ℕ)
-    (h : Header) (hs : List RecoveredRaftLogEntry) (cs : List ℕ) (f : Fits h hs cs) (le : length hs ≡ 64) (lc : length cs ≡ 4096) (low : Low h b) where
+    (h : Header) (hs : List RecoveredRaftLogEntry) (cs : List ℕ) (f : Fits h hs cs) (le : length hs ≡ 64) (lc : length cs ≡ 4096) (bounds : Bounds h b) where
   abbrev own : Identity
   own = identity_of d
 
@@ -288,22 +292,24 @@ module _ (d : RaftReplicaIdentity) (b : RaftPersistenceBatch) (lent : List ℕ)
   abbrev records_with : Option RaftSnapshotPointerRecord → M.Prepared
   records_with s = (pointer_records (maybe_pointer_of s) ++ records_of own asked.entries) ++ hard_state_records own asked.hard_state
 
-  base_low : v₀.log.snapshot_index ≤ u64_max
+  base_bounded : Bounds h b → Bounded b.entries.now v₀.log
   unfolding view_of
-  base_low = low.head
+  base_bounded (inl small) = inl small
+  base_bounded (inr low) = inr low.head
 
-  pointer_low : (r : RaftSnapshotPointerRecord) → b.snapshot ≡ Some r → (M.preview_pointer (pointer_record_of r) v₀).log.snapshot_index ≤ u64_max
+  pointer_bounded : Bounds h b → (r : RaftSnapshotPointerRecord) → b.snapshot ≡ Some r → Bounded b.entries.now (M.preview_pointer (pointer_record_of r) v₀).log
   unfolding D.with_pointer
-  pointer_low r e = low.pointer r e
+  pointer_bounded (inl small) r e = inl small
+  pointer_bounded (inr low) r e = inr (low.pointer r e)
 
   pointed_of : (s : Option RaftSnapshotPointerRecord) → b.snapshot ≡ s → Prepares (followed (point_in own p₀ s cs) follow) (records_with s) (M.pointed own asked base (maybe_pointer_of s) v₀)
   pointed_of None q =
       carry (follow p₀ cs) (records_with None) (M.pointed own asked base None v₀) (M.extended own asked base asked.entries v₀) pointed_none
-      (entries_prepare own b lent h hs cs d p₀ cs v₀ m₀ refl base_low)
+      (entries_prepare own b lent h hs cs d p₀ cs v₀ m₀ refl (base_bounded bounds))
   pointed_of (Some r) q =
       follow_step (point_ran own p₀ r cs) (M.preview_pointer (pointer_record_of r) v₀) (M.extended own asked base asked.entries) (M.pointed own asked base (Some (pointer_record_of r)) v₀) follow
       (records_with (Some r)) (pointed_some r)
-      (λ y. entries_prepare own b lent h hs cs d (point_ran own p₀ r cs).preview (point_ran own p₀ r cs).bytes (M.preview_pointer (pointer_record_of r) v₀) y.means y.lsn (pointer_low r q))
+      (λ y. entries_prepare own b lent h hs cs d (point_ran own p₀ r cs).preview (point_ran own p₀ r cs).bytes (M.preview_pointer (pointer_record_of r) v₀) y.means y.lsn (pointer_bounded bounds r q))
 
   pointed_prepare : Prepares (pointed_ran d b h.hard_state lent p₀ cs) (batch_records own asked) (M.pointed own asked base asked.snapshot v₀)
   unfolding pointed_ran

@@ -36,7 +36,7 @@ use Rattle.preview.specs.Preview.{Ran, ran_of, formed_by, Sits}
 use Rattle.persistence.specs.Prepare.{beginning, pointed_ran, prepare_ran}
 use Rattle.persistence.specs.Prepares.{batch_records, Prepares}
 use Rattle.persistence.specs.Tries.{Kept, tried_on}
-use Rattle.persistence.proofs.Prepared.{Low, prepares}
+use Rattle.persistence.proofs.Prepared.{Bounds, prepares}
 
 -- The copies that are written are those of the model.
 module _ (s : RecoveredRaftStorage) (st : List ℕ) (o : Own) (es : List RecoveredRaftLogEntry) (cs : List ℕ) (ee : es ≡ entries_in s o.place)
@@ -70,12 +70,12 @@ module _ {s : RecoveredRaftStorage} {st : List ℕ} {i : RaftReplicaIdentity} {o
         sits = record { fits = w.means.fits; places = w.means.places; bytes = w.means.bytes };
       }
 
-  pub tried : (b : RaftPersistenceBatch) (lent : List ℕ) → Low o.head b
+  pub tried : (b : RaftPersistenceBatch) (lent : List ℕ) → Bounds o.head b
       → Prepares (tried_on s st i b lent o) (batch_records (identity_of i) (batch_of b lent)) (M.prepare_on (identity_of i) (batch_of b lent) (replica_of (identity_of i) (meaning s st)))
   unfolding tried_on
-  tried b lent low =
+  tried b lent bounds =
       subst (λ (g : D.Log ℕ). Prepares (tried_on s st i b lent o) (batch_records (identity_of i) (batch_of b lent)) (M.prepare_on (identity_of i) (batch_of b lent) g)) w.means.view
-      (prepares i b lent o.head (entries_in s o.place) (block_of st o) w.means.fits w.means.places w.means.bytes low)
+      (prepares i b lent o.head (entries_in s o.place) (block_of st o) w.means.fits w.means.places w.means.bytes bounds)
 
 -- A batch that is not refused has at most 32 entries.
 module _ (s : RecoveredRaftStorage) (st : List ℕ) (d : RaftReplicaIdentity) (b : RaftPersistenceBatch) (lent : List ℕ) (o : Own) where

@@ -109,6 +109,10 @@ module _ (p : Preview) (cs : List ℕ) (s : Sits p cs) (r : RaftLogEntryRecord) 
   abbrev rest : List Row
   rest = replay_rows_of h old prior r.index r.term
 
+  -- what 25 leaves to be tested
+  abbrev pub replayed_rows : List Row
+  replayed_rows = rest
+
   abbrev accepted : D.Answer
   accepted = accepted_as h old r.index r.term
 

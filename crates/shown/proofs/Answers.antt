@@ -89,7 +89,7 @@ module _ (s : RecoveredRaftStorage) (st : List ℕ) (i : RaftReplicaIdentity) (b
     module _ (d : Extended) (e : ran_of d (tried_on s st i b lent o).bytes ≡ tried_on s st i b lent o) where
       pub shows_refused : (why : Refusal) → d.answer ≡ Err why → ShowsAt s st i b lent index (λ x. x) M.nothing
       unfolding M.shown_in
-      shows_refused why q = shows_sound M.nothing (go (tried w b lent low))
+      shows_refused why q = shows_sound M.nothing (go (tried w b lent (inr low)))
         where
           go : Asked → M.nothing ≡ defined
           go (inl a) = sym (previewed_sound w.whole (Err a.number) a.says)
@@ -99,7 +99,7 @@ module _ (s : RecoveredRaftStorage) (st : List ℕ) (i : RaftReplicaIdentity) (b
           → ShowsAt s st i b lent index (λ x. x) (shown_of r)
       shows_ready q r y =
           shows_sound (shown_of r)
-          (ap shown_of y ∙ ap (λ (x : Ran). shown_of (shown_by o x.preview (M.supplied index (entries_of b.entries.now lent)) index)) e ∙ go (tried w b lent low))
+          (ap shown_of y ∙ ap (λ (x : Ran). shown_of (shown_by o x.preview (M.supplied index (entries_of b.entries.now lent)) index)) e ∙ go (tried w b lent (inr low)))
         where
           go : Asked → shown_of (shown_by o ran.preview (M.supplied index (entries_of b.entries.now lent)) index) ≡ defined
           go (inl a) = absurd (none_some (sym (told_refused d ran (Ok tt) e q) ∙ a.refused))

@@ -2,6 +2,7 @@
 -- Assumes nothing.
 use Rattle.std.specs.Prelude.{Option, None, Some, unwrap_or, Ok}
 use mathlib.Core.Path.{◌≡◌, refl, sym, ap, subst, ◌∙◌}
+use mathlib.Core.Logic.{inl}
 use mathlib.Core.Bool.{true}
 use mathlib.Core.List.{List}
 use Prim.Native.Nat.{ℕ, ◌+◌, ◌*◌, ◌-◌, ◌<◌, ◌≤◌}
@@ -135,7 +136,7 @@ module _ (s : RecoveredRaftStorage) (st : List ℕ) (i : RaftReplicaIdentity) (o
     was_low = rw (sym (ap (λ (g : Log ℕ). g.snapshot_index) w.view)) low.head
 
     held_before : (q : ℕ) → R.place_of p.head index ≡ Some q → from ≡ None → Holds was index
-    held_before q a u = unsupplied own batch was index v (replica_sound s st own w.whole) was_low (pointer_fits b lent low) u e (previewed_holds q a)
+    held_before q a u = unsupplied own batch was index v (replica_sound s st own w.whole) (inl (was_low, pointer_fits b lent low)) u e (previewed_holds q a)
 
     abbrev shown_entry : Option (Entry ℕ) → M.Shown
     shown_entry y = elim y [ None ↦ M.nothing | Some g ↦ M.shown_as from (M.store_place own (meaning s st) index) g.payload ]

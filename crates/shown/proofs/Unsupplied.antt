@@ -6,19 +6,23 @@ use mathlib.Core.Logic.{inl, inr}
 use mathlib.Core.List.{List, [], ◌∷◌}
 use Prim.Native.Nat.{ℕ, ◌+◌, ◌<◌, ◌≤◌}
 use native.Mathlib.Omega.{arith}
-use borrow.Author.Tests.{eqb-true, eqb-false, ne_eqb, ltb-true, ltb-false, not-false}
-use Rattle.std.specs.Prelude.{if◌then◌else◌, pred, Option, None, Some, option_map, Result, Ok, Err}
-use Rattle.definition.specs.Table.{◌=?◌, ◌≠?◌, ◌<?◌, Row, first_of, is_some, or_zero, if_some, u64_max}
+use borrow.Author.Tests.{eqb-true, eqb-false, ne_eqb, leb-true, leb-false, ltb-true, ltb-false, not-false}
+use Rattle.std.specs.Prelude.{if◌then◌else◌, ◌⊎◌, pred, Option, None, Some, option_map, Result, Ok, Err}
+use Rattle.definition.specs.Table.{◌=?◌, ◌≠?◌, ◌<?◌, ◌≤?◌, Row, first_of, every, is_some, or_zero, if_some, u64_max}
 use Rattle.definition.specs.Records.{Identity, LogEntry, HardState}
 use Rattle.definition.specs.Log.{Log, PointerRecord, base, count, last, last_index, snapshot_boundary, is_held, kept_pointer, entry_at_or_below_snapshot, replay_rows, with_entry, with_pointer, with_hard}
 use Rattle.definition.specs.Batch.{BatchEntry, Batch, Preview, preview_pointer, preview_entry, preview_hard_state, previewed, batch_rows, batch_pointer_rows, batch_entry_rows, batch_hard_state_rows, hard_state_before_log_term, concluded, hardened, extended, pointed, prepare_on, supplied}
-use Rattle.definition.proofs.Laws.{Clear, clear, none_some}
+use Rattle.definition.proofs.Laws.{and_l, and_r, Clear, clear, none_some}
 use Rattle.definition.proofs.SoundLog.{SoundLog, Indices, else_false, base_is, last_is, placed_few, not_below, beyond_count}
 
 -- A log holds an index.
 pub record Holds (log : Log ℕ) (x : ℕ) : Type 0 where
   pub from : base log ≤ x
   pub below : x < base log + count log
+
+-- Indices of 64 bits.
+abbrev pub index_fits : BatchEntry → Bool
+index_fits e = e.log_entry.index ≤? u64_max
 
 -- The boundary and the indices of a log have 64 bits.
 record Low (log : Log ℕ) : Type 0 where
@@ -59,9 +63,9 @@ module _ (e : LogEntry) (t : ℕ) (log : Log ℕ) (x : ℕ) where
   Taken = Clear (entry_at_or_below_snapshot e log ∷ replay_rows e log)
 
   -- an index that is not held is the next (29, 30), and has 64 bits
-  next_index : Low log → Taken → is_held log e.index ≡ false → (e.index ≡ base log + count log) × (e.index ≤ u64_max)
+  next_low : Low log → Taken → is_held log e.index ≡ false → (e.index ≡ base log + count log) × (e.index ≤ u64_max)
   unfolding replay_rows
-  next_index m c h = go (log.snapshot_index <? u64_max) refl
+  next_low m c h = go (log.snapshot_index <? u64_max) refl
     where
       next : e.index ≡ last log + 1
       next = eqb-true e.index (last log + 1) (not-false (e.index =? last log + 1) (else_false (is_held log e.index) (e.index ≠? last log + 1) c.1.1.1.1.1.0 h))
@@ -76,6 +80,16 @@ module _ (e : LogEntry) (t : ℕ) (log : Log ℕ) (x : ℕ) where
           (omega (arith, last_one, next, base_is log, least), omega (arith, last_one, next, more, base_is log, least, m.indices))
       go false q = absurd (more (last_end log m (ltb-false log.snapshot_index u64_max q)))
 
+  -- or it is known to have
+  next_index : Low log ⊎ (e.index ≤ u64_max) → Taken → is_held log e.index ≡ false → e.index ≡ base log + count log
+  unfolding replay_rows
+  next_index (inl m) c h = (next_low m c h).0
+  next_index (inr m) c h =
+      let above : log.snapshot_index < e.index = leb-false e.index log.snapshot_index c.0 in
+      let next : e.index ≡ last log + 1 =
+      eqb-true e.index (last log + 1) (not-false (e.index =? last log + 1) (else_false (is_held log e.index) (e.index ≠? last log + 1) c.1.1.1.1.1.0 h)) in
+      omega (arith, last_is log (omega (arith, above, m)), base_is log)
+
   entry_boundary : log.snapshot_index ≤ u64_max → (with_entry e t log).snapshot_index ≤ u64_max
   unfolding with_entry
   entry_boundary l = l
@@ -85,9 +99,9 @@ module _ (e : LogEntry) (t : ℕ) (log : Log ℕ) (x : ℕ) where
     where
       go : (b : Bool) → is_held log e.index ≡ b → base (with_entry e t log) + count (with_entry e t log) ≤ u64_max + 1
       go true w = omega (arith, entry_base, entry_count_lem.0 w, m.indices)
-      go false w = let n = next_index m c w in omega (arith, entry_base, entry_count_lem.1, n.0, n.1)
+      go false w = let n = next_low m c w in omega (arith, entry_base, entry_count_lem.1, n.0, n.1)
 
-  entry_holds : Low log → Taken → (e.index =? x) ≡ false → Holds (with_entry e t log) x → Holds log x
+  entry_holds : Low log ⊎ (e.index ≤ u64_max) → Taken → (e.index =? x) ≡ false → Holds (with_entry e t log) x → Holds log x
   entry_holds m c o h = go (is_held log e.index) refl
     where
       go : (b : Bool) → is_held log e.index ≡ b → Holds log x
@@ -95,7 +109,7 @@ module _ (e : LogEntry) (t : ℕ) (log : Log ℕ) (x : ℕ) where
       go false w =
           record {
             from = omega (arith, h.from, entry_base);
-            below = omega (arith, h.below, entry_base, entry_count_lem.1, (next_index m c w).0, eqb-false e.index x o);
+            below = omega (arith, h.below, entry_base, entry_count_lem.1, next_index m c w, eqb-false e.index x o);
           }
 
 -- A pointer that is accepted only drops entries from the front.
@@ -137,6 +151,23 @@ abbrev pub PointerLow : Option PointerRecord → Type 0
 PointerLow None = Unit {0}
 PointerLow (Some p) = p.snapshot.last_included_index ≤ u64_max
 
+-- Indices of 64 bits: the log's, or the entries'.
+abbrev Fitting : List BatchEntry → Log ℕ → Type 0
+Fitting es log = Low log ⊎ (every index_fits es ≡ true)
+
+first_fits : (e : BatchEntry) (es : List BatchEntry) (log : Log ℕ) → Fitting (e ∷ es) log → Low log ⊎ (e.log_entry.index ≤ u64_max)
+first_fits e es log (inl m) = inl m
+first_fits e es log (inr m) = inr (leb-true e.log_entry.index u64_max (and_l (index_fits e) (every index_fits es) m))
+
+others_fit : (e : BatchEntry) (es : List BatchEntry) (t : ℕ) (log : Log ℕ) → Clear (entry_at_or_below_snapshot e.log_entry log ∷ replay_rows e.log_entry log)
+    → Fitting (e ∷ es) log → Fitting es (with_entry e.log_entry t log)
+others_fit e es t log c (inl m) = inl (entry_low e.log_entry t log 0 m c)
+others_fit e es t log c (inr m) = inr (and_r (index_fits e) (every index_fits es) m)
+
+-- Indices of 64 bits: the log's and the pointer's, or the entries'.
+abbrev pub Fits : Batch → Log ℕ → Type 0
+Fits b was = ((was.snapshot_index ≤ u64_max) × PointerLow b.snapshot) ⊎ (every index_fits b.entries ≡ true)
+
 module _ (i : Identity) (b : Batch) (was : Log ℕ) (x : ℕ) (w : Preview) where
   concluded_holds : (v : Preview) → concluded i b was v ≡ Ok w → Holds w.log x → Holds v.log x
   unfolding concluded
@@ -154,30 +185,38 @@ module _ (i : Identity) (b : Batch) (was : Log ℕ) (x : ℕ) (w : Preview) wher
       hard_holds (Some s) v.log x
       (concluded_holds (preview_hard_state i s v) (accepted (batch_hard_state_rows i b was s v) (preview_hard_state i s v) w (concluded i b was) z).1 h)
 
-  extended_holds : (es : List BatchEntry) (v : Preview) → Low v.log → supplied x es ≡ None → extended i b was es v ≡ Ok w → Holds w.log x → Holds v.log x
+  extended_holds : (es : List BatchEntry) (v : Preview) → Fitting es v.log → supplied x es ≡ None → extended i b was es v ≡ Ok w → Holds w.log x → Holds v.log x
   unfolding extended batch_entry_rows
   extended_holds [] v m u z h = hardened_holds b.hard_state v z h
   extended_holds (e ∷ es) v m u z h =
       let a = accepted (batch_entry_rows i b was e.log_entry v) (preview_entry i e.log_entry v) w (extended i b was es) z in
       let c = clear (batch_entry_rows i b was e.log_entry v) a.0 in
       let n = unsupplied_cons x e es u in
-      entry_holds e.log_entry (v.lsn + 1) v.log x m c.1.1.1.1.1.1 n.1
-      (extended_holds es (preview_entry i e.log_entry v) (entry_low e.log_entry (v.lsn + 1) v.log x m c.1.1.1.1.1.1) n.0 a.1 h)
+      entry_holds e.log_entry (v.lsn + 1) v.log x (first_fits e es v.log m) c.1.1.1.1.1.1 n.1
+      (extended_holds es (preview_entry i e.log_entry v) (others_fit e es (v.lsn + 1) v.log c.1.1.1.1.1.1 m) n.0 a.1 h)
 
-  pointed_holds : (s : Option PointerRecord) (v : Preview) → v.log ≡ was → SoundLog was → was.snapshot_index ≤ u64_max → PointerLow s → supplied x b.entries ≡ None
+  pointed_holds : (s : Option PointerRecord) (v : Preview) → v.log ≡ was → SoundLog was → ((was.snapshot_index ≤ u64_max) × PointerLow s) ⊎ (every index_fits b.entries ≡ true) → supplied x b.entries ≡ None
       → pointed i b was s v ≡ Ok w → Holds w.log x → Holds v.log x
   unfolding pointed batch_pointer_rows
-  pointed_holds None v l k m q u z h = extended_holds b.entries v (rw l (low_sound was k m)) u z h
-  pointed_holds (Some p) v l k m q u z h =
+  pointed_holds None v l k m u z h = extended_holds b.entries v (rw l (kept m)) u z h
+    where
+      kept : ((was.snapshot_index ≤ u64_max) × Unit {0}) ⊎ (every index_fits b.entries ≡ true) → Fitting b.entries was
+      kept (inl q) = inl (low_sound was k q.0)
+      kept (inr q) = inr q
+  pointed_holds (Some p) v l k m u z h =
       let a = accepted (batch_pointer_rows i b was p v) (preview_pointer p v) w (extended i b was b.entries) z in
       let c = clear (batch_pointer_rows i b was p v) a.0 in
       rw l
       (pointer_holds i p (v.lsn + 1) was x k c.1.1.1.1.1.1.1.1.0
-      (subst (λ (g : Log ℕ). Holds (with_pointer p.snapshot (v.lsn + 1) g) x) l (extended_holds b.entries (preview_pointer p v) (pointer_low p (v.lsn + 1) v.log (rw l (low_sound was k m)) q) u a.1 h)))
+      (subst (λ (g : Log ℕ). Holds (with_pointer p.snapshot (v.lsn + 1) g) x) l (extended_holds b.entries (preview_pointer p v) (kept m) u a.1 h)))
+    where
+      kept : ((was.snapshot_index ≤ u64_max) × (p.snapshot.last_included_index ≤ u64_max)) ⊎ (every index_fits b.entries ≡ true) → Fitting b.entries (with_pointer p.snapshot (v.lsn + 1) v.log)
+      kept (inl q) = inl (pointer_low p (v.lsn + 1) v.log (rw l (low_sound was k q.0)) q.1)
+      kept (inr q) = inr q
 
-  -- Of a sound log whose boundary, and a batch whose pointer, has 64 bits.
-  pub unsupplied : SoundLog was → was.snapshot_index ≤ u64_max → PointerLow b.snapshot → supplied x b.entries ≡ None → prepare_on i b was ≡ Ok w → Holds w.log x → Holds was x
+  -- Of a sound log, where the indices have 64 bits.
+  pub unsupplied : SoundLog was → Fits b was → supplied x b.entries ≡ None → prepare_on i b was ≡ Ok w → Holds w.log x → Holds was x
   unfolding prepare_on
-  unsupplied k m q u z h =
+  unsupplied k m u z h =
       let v : Preview = record { log = was; lsn = or_zero (λ t. t) was.last_replayed_lsn; records = [] } in
-      pointed_holds b.snapshot v refl k m q u (accepted (batch_rows i b was) v w (pointed i b was b.snapshot) z).1 h
+      pointed_holds b.snapshot v refl k m u (accepted (batch_rows i b was) v w (pointed i b was b.snapshot) z).1 h
