@@ -5,6 +5,7 @@
 mod printing;
 mod reading;
 
+use arrayvec::ArrayVec;
 use journal::input::Source;
 use journal::{Recovered, Stop};
 use text::command::Commands;
@@ -17,7 +18,7 @@ fn answer(
     commands: &Commands,
     store: &[u8],
 ) -> std::io::Result<()> {
-    let mut shows = [0u64; 4096];
+    let mut shows = ArrayVec::new();
     let asked = reading::read_batch(source, recovered.line, commands.lens(), &mut shows);
     source.outcome()?;
     match asked {

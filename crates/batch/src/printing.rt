@@ -1,5 +1,5 @@
 // What the program writes.
-use crate::reading::Asked;
+use crate::reading::{Asked, Shows};
 use ids::{Lsn, Refusal};
 use readers::SoundStorage;
 use shown::Shown;
@@ -7,6 +7,7 @@ use storage::RecoveredRaftStorage;
 use tables::Output;
 use text::command::Commands;
 
+// A program prints its own lines; what they say is said once, in tables and batch_tables.
 pub fn print_malformed(rt: &impl Print, line: u64) -> std::io::Result<()> {
     let mut out = Output::new();
     tables::write_malformed(line, &mut out);
@@ -71,8 +72,8 @@ impl<'a> Answer<'a> {
         rt.write_all(out.as_slice())
     }
 
-    fn print_shows(&self, rt: &impl Print, shows: &[u64; 4096]) -> std::io::Result<()> {
-        for &index in &shows[..self.asked.given.shows.min(4096)] {
+    fn print_shows(&self, rt: &impl Print, shows: &Shows) -> std::io::Result<()> {
+        for &index in shows.as_slice() {
             self.print_shown(rt, index)?;
         }
         Ok(())
@@ -97,7 +98,7 @@ pub fn print_answer(
     asked: &Asked,
     commands: &Commands,
     store: &[u8],
-    shows: &[u64; 4096],
+    shows: &Shows,
 ) -> std::io::Result<()> {
     let state = if asked.finish {
         finishing::finish(recovered, store).state

@@ -1,5 +1,6 @@
 // The batch behind a journal, to the end of the input or to the first line that cannot be read.
-use batch_text::{BatchLine, Given};
+use arrayvec::ArrayVec;
+use batch_text::{BatchLine, Given, MAX_SHOWS};
 use ids::RaftReplicaIdentity;
 use journal::input::Source;
 
@@ -11,11 +12,14 @@ pub struct Asked {
     pub given: Given,
 }
 
-// The index of a `show` goes to its place.
-fn keep_show(shows: &mut [u64; 4096], at: usize, l: BatchLine) {
+// The indices whose commands are to be shown.
+pub type Shows = ArrayVec<u64, MAX_SHOWS>;
+
+// The index of a `show` goes behind the others.
+fn keep_show(shows: &mut Shows, l: BatchLine) {
     if let BatchLine::Show(index) = l {
-        if at < 4096 {
-            shows[at] = index;
+        if !shows.is_full() {
+            shows.push(index);
         }
     }
 }
@@ -26,7 +30,7 @@ fn read_lines(
     source: &mut Source,
     line: u64,
     lens: &[u8],
-    shows: &mut [u64; 4096],
+    shows: &mut Shows,
 ) -> Result<Given, u64> {
     let mut given = Given::none();
     for turn in 0..u64::MAX {
@@ -35,9 +39,8 @@ fn read_lines(
         };
         let number = line.wrapping_add(turn);
         let l = batch_text::batch_line(&read, lens).ok_or(number)?;
-        let at = given.shows;
         given = given.with_line(l).ok_or(number)?;
-        keep_show(shows, at, l);
+        keep_show(shows, l);
     }
     Ok(given)
 }
@@ -48,7 +51,7 @@ pub fn read_batch(
     source: &mut Source,
     line: u64,
     lens: &[u8],
-    shows: &mut [u64; 4096],
+    shows: &mut Shows,
 ) -> Result<Asked, u64> {
     let first = source.next_line().ok_or(line)?;
     let finish = batch_text::finish_of(&first).ok_or(line)?;

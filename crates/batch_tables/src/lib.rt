@@ -50,7 +50,7 @@ impl<'a> Commands<'a> {
     }
 }
 
-// A hex digit, in small letters. No Display: the library's is of whole numbers, without the leading zero.
+// A hex digit, in small letters. By hand: the library's `from_digit` answers an Option of a char, which is no plainer.
 fn digit(n: u8) -> u8
     requires { n < 16 }
     ensures { result ≡ hex_glyph n }
@@ -222,7 +222,7 @@ fn put_raft<'a>(out: &mut Output<65536>, r: RaftWalRecord, given: &Commands<'a>)
     }
 }
 
-// A record; the blank one is no line.
+// A record; one without a body is no line.
 fn put_record<'a>(out: &mut Output<65536>, r: PreparedRecord, given: &Commands<'a>)
     requires { length out.old + 256 ≤ 65536 }
     ensures text { out.new ≡ out.old ++ record_text r.body given.now.commands given.now.lent }
@@ -267,7 +267,7 @@ pub fn write_prepared(
     }
 }
 
-// journal refused LSN NUMBER
+// journal refused LSN NUMBER. Beside tables' write_refused: one word before the same two numbers, which as a parameter is no plainer.
 pub fn write_journal_refused(lsn: u64, number: u64, out: &mut Output<65536>)
     ensures { out.new ≡ journal_refused lsn number }
 {
@@ -303,7 +303,7 @@ fn put_command(out: &mut Output<65536>, bytes: &[u8])
     out.put(b"\n");
 }
 
-// shown INDEX log|batch [HEX], of the first 64 bytes: no kept command has more
+// shown INDEX log|batch [HEX], of the first 64 bytes: no kept command has more. A flag, as the line's definition has it.
 pub fn write_shown(index: u64, of_batch: bool, bytes: &[u8], out: &mut Output<65536>)
     ensures { out.new ≡ shown_line index of_batch (take 64 bytes.now) }
 {

@@ -23,7 +23,7 @@ struct Part {
     sum: Sum,
 }
 
-// A line so far.
+// A line so far. Not text's Line: more fields, and each is read as a checksum too.
 #[derive(Clone, Copy, Debug, PartialEq, Eq)]
 struct Line {
     // the closed fields, of which no question has more than 22; an array, since the count goes past it

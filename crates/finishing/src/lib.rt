@@ -9,7 +9,7 @@ ghost use Rattle.finishing.specs.Finishes.{Finishes};
 use ids::Refusal;
 use storage::RecoveredRaftStorage;
 
-// The answer, and the state after it.
+// The answer, and the state after it. Beside recovery's Observed: the answer is of another type, and one struct over it is no plainer.
 #[derive(Clone, Copy, Debug, PartialEq, Eq)]
 pub struct Finished {
     pub answer: Result<(), Refusal>,
@@ -17,6 +17,7 @@ pub struct Finished {
 }
 
 // Every held replica is finished: its hard state is raised to the largest of its boundary's term and its entries' terms.
+// By place: a header with its 64 entries.
 fn finish_all(state: RecoveredRaftStorage) -> RecoveredRaftStorage
     requires { Limits state }
     ensures { result ≡ finished_storage state }

@@ -145,7 +145,7 @@ pub enum Refusal {
 }
 
 impl Refusal {
-    // Document 01's number.
+    // Document 01's number. A table, as in the definition: with `self as u64` the proof did not close (56 cases, stopped after ten minutes).
     pub fn number(self) -> u64
         ensures { result ≡ number_of self }
     {

@@ -8,7 +8,8 @@ use text::command::Command;
 use text::line::Line;
 use text::record;
 
-// Standard input through a buffer. A read that fails counts as the input's end, and its error is kept.
+// Standard input through a buffer. A read that fails counts as the input's end, and its error is kept. The library's BufReader asks for
+// a heap.
 #[derive(Drop)]
 pub struct Source<'a> {
     stdin: Stdin,

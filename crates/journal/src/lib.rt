@@ -77,7 +77,7 @@ pub fn line_behind(headers: u64, commands: usize, records: usize) -> u64 {
         .wrapping_add(1)
 }
 
-// `most` records.
+// `most` records. Beside the one of `steps`, which goes on past a refusal and takes no record of a chunk that ends at a bad line.
 fn observe_all(
     source: &mut Source,
     most: usize,

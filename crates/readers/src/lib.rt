@@ -33,7 +33,7 @@ fn tested(state: &RecoveredRaftStorage, store: &[u8]) -> bool
     heads.len() == 8 && entries.len() == 512 && soundness::is_sound(state, store)
 }
 
-// Whether a state and its store are sound.
+// Whether a state and its store are sound, of a state by value: for callers from before.
 pub fn passes(state: RecoveredRaftStorage, store: &[u8]) -> bool
     ensures { Passes state store.now result }
 {
@@ -57,7 +57,7 @@ fn own_at(state: &RecoveredRaftStorage, identity: RaftReplicaIdentity) -> Own
     }
 }
 
-// The same, of a state by value.
+// The same, of a state by value: for callers from before.
 pub fn own_of(state: RecoveredRaftStorage, identity: RaftReplicaIdentity) -> Own
     requires { state.held ≤ 8 }
     ensures { result ≡ own_for state identity }

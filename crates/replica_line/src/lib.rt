@@ -24,7 +24,7 @@ pub fn number_in(lsn: Option<Lsn>) -> Option<u64>
     Some(n)
 }
 
-// A number, `-` for none, and the byte that ends it.
+// A number, `-` for none, and the byte that ends it. Not Output's put_vote: a vote is no number, and ends in a space.
 pub fn put_maybe(out: &mut Output<131072>, n: Option<u64>, end: u8)
     requires { length out.old + 21 ≤ 131072 }
     ensures text { out.new ≡ out.old ++ (maybeField n ++ end ∷ []) }

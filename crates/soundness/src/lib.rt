@@ -9,7 +9,8 @@ use ids::Lsn;
 use storage::RecoveredRaftStorage;
 use view::{Header, RecoveredRaftLogEntry};
 
-// Entries in a block, each in its cell, and zeros after them.
+// Entries in a block, each in its cell, and zeros after them. By their places, here and below: entry, cell, header and block have one
+// number, and zipped in chunks they are no plainer.
 #[tactic(auto, using(crate::proofs::Step::entries_step, crate::proofs::Step::entries_end))]
 fn entries_ok(last: Option<Lsn>, entries: &[RecoveredRaftLogEntry], block: &[u8]) -> bool
     requires { 64 * length entries.now ≤ length block.now }

@@ -1,5 +1,5 @@
 // States made by hand, sound and not, through the library: odd ones must be taken, and each broken clause of soundness is refused by 1
-// with state and store as they were. And how many records a chunk takes.
+// with state and store as they were. And how many records are taken of a list.
 #![tactic(auto)]
 
 mod broken;
@@ -14,7 +14,7 @@ use std::io;
 use storage::RecoveredRaftStorage;
 use trying::Trial;
 
-// How many records a chunk takes of the first `count` of 256.
+// How many records are taken of the first `count` of 256; there are no more.
 fn taken_of(count: usize) -> usize {
     let mut store = [0u8; 32768];
     let s = RecoveredRaftStorage::fresh();

@@ -127,7 +127,7 @@ struct Storage<'a> {
 }
 
 impl<'a> Storage<'a> {
-    // The lines of the entries of replica place p. An index past 64 bits is their largest number.
+    // The lines of the entries of replica place p, each with its cell by its place. An index past 64 bits is their largest number.
     #[tactic(auto, using(tables::proofs::Text::lines_step), unfolding(tables::specs::Model::lines_to))]
     fn put_entries(&self, out: &mut Output<131072>, p: usize)
         requires { (p < 8) × (length out.old + 12928 ≤ 131072) }

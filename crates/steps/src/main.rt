@@ -65,6 +65,7 @@ fn observe(
     Ok(observed.state)
 }
 
+// A program prints its own lines; what they say is said once, in tables.
 fn print_malformed(rt: &impl Print, line: u64) -> std::io::Result<()> {
     let mut out = Output::new();
     tables::write_malformed(line, &mut out);

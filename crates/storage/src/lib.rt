@@ -83,7 +83,7 @@ impl RecoveredRaftStorage {
     }
 
     // Where an identity stands among the replicas held or, as the error, where it would be opened: the first place that it does
-    // not follow.
+    // not follow. No binary search: what is found where the places do not ascend is said too.
     pub fn find(&self, identity: RaftReplicaIdentity) -> Result<usize, usize>
         requires { self.now.held ≤ 8 }
         ensures { result ≡ found_at self.now (identity_of identity) }

@@ -22,7 +22,8 @@ use codec::{
 use frontier::RaftProgress;
 use ids::{Lsn, RaftReplicaIdentity, Refusal, ReplicaId};
 
-// A kept payload. A normal command's bytes stand in its cell of the store.
+// A kept payload. A normal command's bytes stand in its cell of the store. It has the three fields of a change, as the record's payload
+// has; one struct for them would be one more name at each place that looks at them, and no plainer.
 #[derive(Clone, Copy, Debug, PartialEq, Eq)]
 pub enum EntryPayload {
     Normal {
