@@ -7,7 +7,6 @@ use storage::RecoveredRaftStorage;
 use tables::Output;
 use text::command::Commands;
 
-// A program prints its own lines; what they say is said once, in tables and batch_tables.
 pub fn print_malformed(rt: &impl Print, line: u64) -> std::io::Result<()> {
     let mut out = Output::new();
     tables::write_malformed(line, &mut out);

@@ -25,7 +25,7 @@ pub struct Own {
 }
 
 // Whether they are sound. The lengths of the state's arrays are compared that the proof knows them, of a state by reference.
-fn tested(state: &RecoveredRaftStorage, store: &[u8]) -> bool
+pub fn passes(state: &RecoveredRaftStorage, store: &[u8]) -> bool
     ensures { Passes state.now store.now result }
 {
     let heads = &state.heads[..];
@@ -33,15 +33,8 @@ fn tested(state: &RecoveredRaftStorage, store: &[u8]) -> bool
     heads.len() == 8 && entries.len() == 512 && soundness::is_sound(state, store)
 }
 
-// Whether a state and its store are sound, of a state by value: for callers from before.
-pub fn passes(state: RecoveredRaftStorage, store: &[u8]) -> bool
-    ensures { Passes state store.now result }
-{
-    tested(&state, store)
-}
-
 // Where a replica stands, and its header; an empty one where it is not held.
-fn own_at(state: &RecoveredRaftStorage, identity: RaftReplicaIdentity) -> Own
+pub fn own_of(state: &RecoveredRaftStorage, identity: RaftReplicaIdentity) -> Own
     requires { state.now.held ≤ 8 }
     ensures { result ≡ own_for state.now identity }
 {
@@ -55,14 +48,6 @@ fn own_at(state: &RecoveredRaftStorage, identity: RaftReplicaIdentity) -> Own
             head: Header::new(identity),
         },
     }
-}
-
-// The same, of a state by value: for callers from before.
-pub fn own_of(state: RecoveredRaftStorage, identity: RaftReplicaIdentity) -> Own
-    requires { state.held ≤ 8 }
-    ensures { result ≡ own_for state identity }
-{
-    own_at(&state, identity)
 }
 
 // The lesser of the LSNs that are present.
@@ -105,7 +90,7 @@ impl<'a, 's> SoundStorage<'a, 's> {
     ) -> Result<SoundStorage<'a, 's>, Refusal>
         ensures { opened_of result ≡ opens state.now store.now }
     {
-        if !tested(state, store) {
+        if !passes(state, store) {
             return Err(Refusal::Unsound);
         }
         Ok(SoundStorage { state, store })
@@ -116,7 +101,7 @@ impl<'a, 's> SoundStorage<'a, 's> {
     pub fn own(&self, identity: RaftReplicaIdentity) -> Own
         ensures { result ≡ own_for self.now.state.now identity }
     {
-        own_at(self.state, identity)
+        own_of(self.state, identity)
     }
 
     // The entry at place q of replica place p.

@@ -65,13 +65,6 @@ fn observe(
     Ok(observed.state)
 }
 
-// A program prints its own lines; what they say is said once, in tables.
-fn print_malformed(rt: &impl Print, line: u64) -> std::io::Result<()> {
-    let mut out = Output::new();
-    tables::write_malformed(line, &mut out);
-    rt.write_all(out.as_slice())
-}
-
 fn print_state(rt: &impl Print, state: &RecoveredRaftStorage, store: &[u8]) -> std::io::Result<()> {
     let mut out = Output::new();
     state_tables::write_state(state, store, &mut out);
@@ -95,7 +88,11 @@ fn main(rt: HostRuntime) -> std::io::Result<()> {
     let observed = observe(&mut source, &mut commands, &mut store, &mut out);
     source.outcome()?;
     match observed {
-        Err(line) => print_malformed(&rt, line),
+        Err(line) => {
+            let mut out = Output::new();
+            tables::write_malformed(line, &mut out);
+            rt.write_all(out.as_slice())
+        }
         Ok(state) => {
             rt.write_all(out.as_slice())?;
             print_states(&rt, state, &store)
