@@ -36,7 +36,8 @@ impl<'a> Model for Commands<'a> {
 }
 
 impl<'a> Commands<'a> {
-    // The least number of a command with these bytes of the lent ones; 0 where none has them.
+    // The least number of a command with these bytes of the lent ones; 0 where none has them. By number: its bytes and its length stand
+    // at it.
     fn number_of(&self, place: usize, len: usize) -> u64
         ensures { result ≡ least_number self.now.commands (take len (drop place self.now.lent)) }
     {

@@ -94,11 +94,7 @@ fn next_record(replicas: &mut [Replica; 6], i: usize) -> WalRecord
 
 // In chunks of 256 records.
 fn make_journal() -> [[WalRecord; 256]; 16] {
-    let blank = WalRecord {
-        lsn: Lsn::ZERO,
-        body: None,
-    };
-    let mut chunks = [[blank; 256]; 16];
+    let mut chunks = [[WalRecord::default(); 256]; 16];
     let mut replicas = [Replica {
         last: 0,
         command: 0,

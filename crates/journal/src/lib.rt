@@ -38,7 +38,7 @@ pub struct Chunk {
     pub bad: bool,
 }
 
-// So many commands, at most 256, up to a line that cannot be read.
+// So many commands, at most 256, up to a line that cannot be read. By number: its bytes, its length and the count go with it.
 fn read_commands(source: &mut Source, most: usize, commands: &mut Commands) {
     commands.count = 0;
     for i in 0..most.min(256) {
