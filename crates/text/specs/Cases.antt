@@ -253,7 +253,7 @@ records =
     ∷ "FF 1"
     ∷ "h 7 1 1 1 1 - 2"
     ∷ "H 7 1 1 1 1 -- 2"
-    ∷ "H 7 1 1 1 1 None 2"
+    ∷ "H 7 1 1 1 1 none 2"
     ∷ "H 7 1 1 1 - 1 2"
     -- a field too many or missing, an empty one, a space at an end
     ∷ ""
