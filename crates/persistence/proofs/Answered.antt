@@ -31,11 +31,11 @@ use Rattle.arrayvec.specs.ArrayVec.{ArrayVec}
 use Rattle.batches.specs.declared.BatchEntry.{BatchEntry}
 use Rattle.batches.specs.declared.RaftPersistenceBatch.{RaftPersistenceBatch}
 use Rattle.batches.specs.Meaning.{entries_of, batch_of}
-use Rattle.preview.specs.declared.Extended.{Extended}
-use Rattle.preview.specs.Preview.{Ran, ran_of}
+use Rattle.persistence.specs.declared.TriedBatch.{TriedBatch}
+use Rattle.preview.specs.Preview.{Ran}
 use Rattle.preview.specs.Extends.{records_of}
 use Rattle.persistence.specs.Prepares as R
-use Rattle.persistence.specs.Tries.{tried_on}
+use Rattle.persistence.specs.Tries.{ran_of, tried_on}
 use Rattle.persistence.specs.Answer.{pointer_records, hard_state_records, entry_record, entry_records, records_in, answer_with, bodies_of, answer_of, said_by, bodies_in, PreparesBatch}
 use Rattle.persistence.proofs.Prepared.{Low}
 use Rattle.persistence.proofs.Tried.{tried, prepare_sound, prepare_unsound}
@@ -136,5 +136,5 @@ module _ {s : RecoveredRaftStorage} {st : List ℕ} {d : RaftReplicaIdentity} (b
         (ap (λ (x : List PreparedRecord). Ok (record { items = x })) e)
 
 -- What was tried is told by the answer.
-pub told_refused : (r : Extended) (x : Ran) (a : Result (Unit {0}) Refusal) → ran_of r x.bytes ≡ x → r.answer ≡ a → x.refused ≡ checked_of a
+pub told_refused : (r : TriedBatch) (x : Ran) (a : Result (Unit {0}) Refusal) → ran_of r x.bytes ≡ x → r.answer ≡ a → x.refused ≡ checked_of a
 told_refused r x a e q = sym (ap (λ (y : Ran). y.refused) e) ∙ ap checked_of q

@@ -5,6 +5,8 @@ use mathlib.Core.Path.{◌≡◌, refl, sym, ap, subst, ◌∙◌}
 use mathlib.Core.List.{List, [], ◌∷◌, ◌++◌}
 use Prim.Native.Nat.{ℕ, ◌+◌, ◌<◌, ◌≤◌}
 use borrow.Author.Tests.{leb-false}
+use Rattle.std.specs.Result.{IsErrAnd}
+use Rattle.std.proofs.lemmas.Result.{err_from_is_err_and}
 use Rattle.definition.specs.Table.{Row, first_of, u64_max}
 use Rattle.definition.specs.Records.{Identity}
 use Rattle.definition.specs.Log as D
@@ -23,14 +25,17 @@ use Rattle.view.specs.Meaning.{view_of}
 use Rattle.view.specs.Model.{with_pointer, covered_by, maximum_term, dropped_bytes}
 use Rattle.view.specs.Readers.{last_of}
 use Rattle.batches.specs.declared.RaftPersistenceBatch.{RaftPersistenceBatch}
-use Rattle.preview.specs.declared.Extended.{Extended}
 use Rattle.preview.specs.declared.Preview.{Preview}
 use Rattle.batches.specs.Checks.{lsn_exhausted, pointer_form_rows, pointer_rows, hard_state_rows, term_rows}
 use Rattle.batches.specs.Meaning.{batch_of}
-use Rattle.preview.specs.Preview.{Ran, ran_of, ran, formed_by, onward, extend_over, Sits}
+use Rattle.preview.specs.Preview.{Ran, ran_with, ran, formed_by, onward, extend_over, Sits}
 use Rattle.persistence.specs.Prepare.{held_at, moved_down, pointed_with, point_ran, hard_header, hardened_with, harden_ran, conclude_ran, point_in, harden_in, followed, lastly_ran, entries_ran, pointed_ran, prepare_ran}
 use Rattle.persistence.specs.Prepares.{Stands}
 use Rattle.persistence.proofs.Prepared.{point_next}
+
+-- A refusal that is handed on.
+handed : {why : Refusal} (q : Result (Unit {0}) Refusal) → IsErrAnd q (λ v. v ≡ why) → q ≡ Err why
+handed q u = let e = err_from_is_err_and q u in e.1 ∙ ap Err e.2
 
 -- The pointer.
 module _ (i : Identity) (p : Preview) (r : RaftSnapshotPointerRecord) (cs : List ℕ) (held : Option ℕ) (a : Result (Unit {0}) Refusal)
@@ -44,9 +49,11 @@ module _ (i : Identity) (p : Preview) (r : RaftSnapshotPointerRecord) (cs : List
   told : checked_of a ≡ first_of rows
   told = ea ∙ ap (λ (x : Option ℕ). first_of (pointer_rows i p.head p.lsn x r)) eh
 
-  pub point_out : (why : Refusal) → a ≡ Err why → ran_of (record { answer = Err why; preview = p }) cs ≡ point_ran i p r cs
+  pub point_out : {why : Refusal} → a ≡ Err why → (q : Result (Unit {0}) Refusal) → IsErrAnd q (λ v. v ≡ why) → ran_with q p cs ≡ point_ran i p r cs
   unfolding point_ran
-  point_out why e = ap (λ (o : Option ℕ). formed_by o p cs (pointed_with p r k cs)) (sym (ap checked_of e) ∙ told)
+  point_out e q u =
+      ap (λ (x : Result (Unit {0}) Refusal). ran_with x p cs) (handed q u)
+      ∙ ap (λ (o : Option ℕ). formed_by o p cs (pointed_with p r k cs)) (sym (ap checked_of e) ∙ told)
 
   module _ (e : a ≡ (Ok tt)) where
     no_row : None ≡ first_of rows
@@ -60,7 +67,7 @@ module _ (i : Identity) (p : Preview) (r : RaftSnapshotPointerRecord) (cs : List
         leb-false u64_max p.lsn (clear_r (successor_rows_of i p.head.snapshot r) after c.1.1.1.1.1.1.1.1).0
 
     pub point_in_lem : (n : ℕ) (h : Header) (t : Preview) (cs' : List ℕ) → n ≡ k → h ≡ with_pointer p.head r (record { 0 = p.lsn + 1 }) n → t ≡ moved_down p n → cs' ≡ dropped_bytes cs n
-        → ran_of (record { answer = (Ok tt); preview = record { head = h; entries = t.entries; lsn = p.lsn + 1 } }) cs' ≡ point_ran i p r cs
+        → ran_with (Ok tt) (record { head = h; entries = t.entries; lsn = p.lsn + 1 }) cs' ≡ point_ran i p r cs
     unfolding point_ran
     point_in_lem n h t cs' en eh et ec =
         ap (λ (x : Header). ran None (record { head = x; entries = t.entries; lsn = p.lsn + 1 }) cs') eh
@@ -79,8 +86,8 @@ module _ (i : Identity) (p : Preview) (cs : List ℕ) (s : Sits p cs) where
       point_next i p cs v (record { view = refl; fits = s.fits; places = s.places; bytes = s.bytes }) refl r w in
       record { fits = y.means.fits; places = y.means.places; bytes = y.means.bytes }
 
-  pub pointed_sits : (x : Option RaftSnapshotPointerRecord) (d : Extended) (cs' : List ℕ) → ran_of d cs' ≡ point_in i p x cs → d.answer ≡ (Ok tt) → Sits d.preview cs'
-  pointed_sits x d cs' et e =
+  pub pointed_sits : (x : Option RaftSnapshotPointerRecord) {a : Result (Unit {0}) Refusal} {t : Preview} {cs' : List ℕ} → ran_with a t cs' ≡ point_in i p x cs → a ≡ (Ok tt) → Sits t cs'
+  pointed_sits x et e =
       subst (λ (y : Ran). Sits y.preview y.bytes) (sym et) (pointed_fits x (sym (ap (λ (y : Ran). y.refused) et) ∙ ap checked_of e))
 
 -- The hard state.
@@ -89,46 +96,37 @@ module _ (kept : Option HardState) (snapshot : Option RaftSnapshotPointerRecord)
   hard_told : checked_of a ≡ first_of (hard_state_rows kept snapshot (last_of p.head) h)
   hard_told = ea ∙ ap (λ (x : ℕ). first_of (hard_state_rows kept snapshot x h)) el
 
-  pub harden_out : (why : Refusal) → a ≡ Err why → (cs : List ℕ) → ran_of (record { answer = Err why; preview = p }) cs ≡ harden_ran kept snapshot h p cs
+  pub harden_out : {why : Refusal} → a ≡ Err why → (q : Result (Unit {0}) Refusal) → IsErrAnd q (λ v. v ≡ why) → (cs : List ℕ) → ran_with q p cs ≡ harden_ran kept snapshot h p cs
   unfolding harden_ran
-  harden_out why e cs = ap (λ (o : Option ℕ). formed_by o p cs (ran None (hardened_with p h) cs)) (sym (ap checked_of e) ∙ hard_told)
+  harden_out e q u cs =
+      ap (λ (x : Result (Unit {0}) Refusal). ran_with x p cs) (handed q u)
+      ∙ ap (λ (o : Option ℕ). formed_by o p cs (ran None (hardened_with p h) cs)) (sym (ap checked_of e) ∙ hard_told)
 
   pub harden_in_lem : (x : Header) → a ≡ (Ok tt) → x ≡ hard_header p.head h → (cs : List ℕ)
-      → ran_of (record { answer = (Ok tt); preview = record { head = x; entries = p.entries; lsn = p.lsn } }) cs ≡ harden_ran kept snapshot h p cs
+      → ran_with (Ok tt) (record { head = x; entries = p.entries; lsn = p.lsn }) cs ≡ harden_ran kept snapshot h p cs
   unfolding harden_ran
   harden_in_lem x e ex cs =
       ap (λ (y : Header). ran None (record { head = y; entries = p.entries; lsn = p.lsn }) cs) ex
       ∙ ap (λ (o : Option ℕ). formed_by o p cs (ran None (hardened_with p h) cs)) (sym (ap checked_of e) ∙ hard_told)
 
 -- The terms.
-module _ (hard kept : Option HardState) (p : Preview) (largest : ℕ) (a : Result (Unit {0}) Refusal) (el : largest ≡ maximum_term p.head p.entries)
-    (ea : checked_of a ≡ first_of (term_rows hard kept p.head.snapshot_term largest)) where
-  terms_told : checked_of a ≡ first_of (term_rows hard kept p.head.snapshot_term (maximum_term p.head p.entries))
-  terms_told = ea ∙ ap (λ (x : ℕ). first_of (term_rows hard kept p.head.snapshot_term x)) el
-
-  pub conclude_out : (why : Refusal) → a ≡ Err why
-      → checked_of (Err why) ≡ first_of (term_rows hard kept p.head.snapshot_term (maximum_term p.head p.entries))
-  conclude_out why e = sym (ap checked_of e) ∙ terms_told
-
-  pub conclude_in : a ≡ (Ok tt) → checked_of (Ok tt) ≡ first_of (term_rows hard kept p.head.snapshot_term (maximum_term p.head p.entries))
-  conclude_in e = sym (ap checked_of e) ∙ terms_told
-
 pub concluded_is : (hard kept : Option HardState) (p : Preview) (o : Result (Unit {0}) Refusal)
     → checked_of o ≡ first_of (term_rows hard kept p.head.snapshot_term (maximum_term p.head p.entries)) → (cs : List ℕ)
-    → ran_of (record { answer = o; preview = p }) cs ≡ conclude_ran hard kept p cs
+    → ran_with o p cs ≡ conclude_ran hard kept p cs
 unfolding conclude_ran
 concluded_is hard kept p o e cs = ap (λ (x : Option ℕ). ran x p cs) e
 
 -- One part after another.
-module _ (d : Extended) (cs : List ℕ) (x : Ran) (rest : Preview → List ℕ → Ran) (et : ran_of d cs ≡ x) where
-  pub followed_out : (why : Refusal) → d.answer ≡ Err why → ran_of d cs ≡ followed x rest
-  followed_out why e =
-      sym (ap (λ (o : Option ℕ). onward o (ran_of d cs) (rest d.preview cs)) (ap checked_of e))
+module _ {a : Result (Unit {0}) Refusal} {t : Preview} {cs : List ℕ} (x : Ran) (rest : Preview → List ℕ → Ran) (et : ran_with a t cs ≡ x) where
+  pub followed_out : {why : Refusal} → a ≡ Err why → (q : Result (Unit {0}) Refusal) → IsErrAnd q (λ v. v ≡ why) → ran_with q t cs ≡ followed x rest
+  followed_out e q u =
+      ap (λ (z : Result (Unit {0}) Refusal). ran_with z t cs) (handed q u ∙ sym e)
+      ∙ sym (ap (λ (o : Option ℕ). onward o (ran_with a t cs) (rest t cs)) (ap checked_of e))
       ∙ ap (λ (y : Ran). followed y rest) et
 
-  pub followed_in : (y : Ran) → d.answer ≡ (Ok tt) → y ≡ rest d.preview cs → y ≡ followed x rest
-  followed_in y e ey =
-      ey ∙ sym (ap (λ (o : Option ℕ). onward o (ran_of d cs) (rest d.preview cs)) (ap checked_of e)) ∙ ap (λ (z : Ran). followed z rest) et
+  pub followed_in : a ≡ (Ok tt) → {y : Ran} → y ≡ rest t cs → y ≡ followed x rest
+  followed_in e ey =
+      ey ∙ sym (ap (λ (o : Option ℕ). onward o (ran_with a t cs) (rest t cs)) (ap checked_of e)) ∙ ap (λ (z : Ran). followed z rest) et
 
 pub lastly_is : (snapshot : Option RaftSnapshotPointerRecord) (hard kept : Option HardState) (p : Preview) (cs : List ℕ)
     → followed (harden_in kept snapshot hard p cs) (conclude_ran hard kept) ≡ lastly_ran snapshot hard kept p cs
@@ -147,12 +145,13 @@ module _ (d : RaftReplicaIdentity) (b : RaftPersistenceBatch) (kept : Option Har
 -- The batch as a whole.
 module _ (d : RaftReplicaIdentity) (b : RaftPersistenceBatch) (lent : List ℕ) (p : Preview) (cs : List ℕ) (a : Result (Unit {0}) Refusal)
     (ea : (lent : List ℕ) (was : D.Log ℕ) → checked_of a ≡ first_of (M.batch_rows (identity_of d) (batch_of b lent) was)) where
-  pub prepare_out : (why : Refusal) → a ≡ Err why → ran_of (record { answer = Err why; preview = p }) cs ≡ prepare_ran d b lent p cs
+  pub prepare_out : {why : Refusal} → a ≡ Err why → (q : Result (Unit {0}) Refusal) → IsErrAnd q (λ v. v ≡ why) → ran_with q p cs ≡ prepare_ran d b lent p cs
   unfolding prepare_ran
-  prepare_out why e =
-      ap (λ (o : Option ℕ). formed_by o p cs (pointed_ran d b p.head.hard_state lent p cs)) (sym (ap checked_of e) ∙ ea lent (view_of p.head p.entries cs))
+  prepare_out e q u =
+      ap (λ (x : Result (Unit {0}) Refusal). ran_with x p cs) (handed q u)
+      ∙ ap (λ (o : Option ℕ). formed_by o p cs (pointed_ran d b p.head.hard_state lent p cs)) (sym (ap checked_of e) ∙ ea lent (view_of p.head p.entries cs))
 
-  pub prepare_in : a ≡ (Ok tt) → (x : Ran) → x ≡ pointed_ran d b p.head.hard_state lent p cs → x ≡ prepare_ran d b lent p cs
+  pub prepare_in : a ≡ (Ok tt) → {x : Ran} → x ≡ pointed_ran d b p.head.hard_state lent p cs → x ≡ prepare_ran d b lent p cs
   unfolding prepare_ran
-  prepare_in e x ex =
+  prepare_in e ex =
       ex ∙ ap (λ (o : Option ℕ). formed_by o p cs (pointed_ran d b p.head.hard_state lent p cs)) (sym (ap checked_of e) ∙ ea lent (view_of p.head p.entries cs))

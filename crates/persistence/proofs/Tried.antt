@@ -30,12 +30,12 @@ use Rattle.readers.proofs.Owns.{Owns}
 use Rattle.batches.specs.declared.RaftPersistenceBatch.{RaftPersistenceBatch}
 use Rattle.batches.specs.Meaning.{entries_of, batch_of}
 use Rattle.batches.proofs.Entries.{entries_count}
-use Rattle.preview.specs.declared.Extended.{Extended}
+use Rattle.persistence.specs.declared.TriedBatch.{TriedBatch}
 use Rattle.preview.specs.declared.Preview.{Preview}
-use Rattle.preview.specs.Preview.{Ran, ran_of, formed_by, Sits}
+use Rattle.preview.specs.Preview.{Ran, ran_with, formed_by, Sits}
 use Rattle.persistence.specs.Prepare.{beginning, pointed_ran, prepare_ran}
 use Rattle.persistence.specs.Prepares.{batch_records, Prepares}
-use Rattle.persistence.specs.Tries.{Kept, tried_on}
+use Rattle.persistence.specs.Tries.{Kept, ran_of, tried_on}
 use Rattle.persistence.proofs.Prepared.{Bounds, prepares}
 
 -- The copies that are written are those of the model.
@@ -47,17 +47,21 @@ module _ (s : RecoveredRaftStorage) (st : List ℕ) (o : Own) (es : List Recover
       let n : 4096 * o.place + 64 * o.head.len - 4096 * o.place ≡ 64 * o.head.len = omega arith in
       ec ∙ ap (λ (k : ℕ). splice (replicate 4096 0) 0 (take k (drop (4096 * o.place) st))) n
 
-  pub try_sits : Kept s st o → Sits (beginning o.head es) cs
-  try_sits k = subst (λ (x : List ℕ). Sits (beginning o.head es) x) (sym copied) (subst (λ (x : List RecoveredRaftLogEntry). Sits (beginning o.head x) (block_of st o)) (sym ee) k.sits)
+  module _ (p : Preview) (ep : p ≡ beginning o.head es) where
+    begun : p ≡ beginning o.head (entries_in s o.place)
+    begun = ep ∙ ap (beginning o.head) ee
 
-  module _ (d : RaftReplicaIdentity) (b : RaftPersistenceBatch) (lent : List ℕ) (r : Extended) (ds : List ℕ) where
-    pub try_ran : ran_of r ds ≡ prepare_ran d b lent (beginning o.head es) cs → ran_of r (tried_on s st d b lent o).bytes ≡ tried_on s st d b lent o
-    unfolding tried_on
-    try_ran e =
-        let w : ran_of r ds ≡ prepare_ran d b lent (beginning o.head (entries_in s o.place)) (block_of st o) =
-        e ∙ ap (λ (x : List RecoveredRaftLogEntry). prepare_ran d b lent (beginning o.head x) cs) ee
-        ∙ ap (prepare_ran d b lent (beginning o.head (entries_in s o.place))) copied in
-        ap (ran_of r) (sym (ap (λ (x : Ran). x.bytes) w)) ∙ w
+    pub try_sits : Kept s st o → Sits p cs
+    try_sits k = subst (λ (x : List ℕ). Sits p x) (sym copied) (subst (λ (x : Preview). Sits x (block_of st o)) (sym begun) k.sits)
+
+    module _ (d : RaftReplicaIdentity) (b : RaftPersistenceBatch) (lent : List ℕ) (r : TriedBatch) (ds : List ℕ) where
+      pub try_ran : ran_of r ds ≡ prepare_ran d b lent p cs → ran_of r (tried_on s st d b lent o).bytes ≡ tried_on s st d b lent o
+      unfolding tried_on
+      try_ran e =
+          let w : ran_of r ds ≡ prepare_ran d b lent (beginning o.head (entries_in s o.place)) (block_of st o) =
+          e ∙ ap (λ (x : Preview). prepare_ran d b lent x cs) begun
+          ∙ ap (prepare_ran d b lent (beginning o.head (entries_in s o.place))) copied in
+          ap (ran_of r) (sym (ap (λ (x : Ran). x.bytes) w)) ∙ w
 
 -- What stands at an own place can be tried.
 module _ {s : RecoveredRaftStorage} {st : List ℕ} {i : RaftReplicaIdentity} {o : Own} (w : Owns s st i o) where

@@ -7,7 +7,8 @@ use Rattle.storage.specs.Model.{entries_in}
 use Rattle.readers.specs.declared.Own.{Own}
 use Rattle.readers.specs.Own.{block_of}
 use Rattle.batches.specs.declared.RaftPersistenceBatch.{RaftPersistenceBatch}
-use Rattle.preview.specs.Preview.{Ran, Sits}
+use Rattle.preview.specs.Preview.{Ran, ran_with, Sits}
+use Rattle.persistence.specs.declared.TriedBatch.{TriedBatch}
 use Rattle.persistence.specs.Prepare.{beginning, prepare_ran}
 
 -- The header, the entries and the block at an own place, which a preview can begin with.
@@ -20,3 +21,7 @@ pub record Kept (s : RecoveredRaftStorage) (st : List ℕ) (o : Own) : Type 0 wh
 -- What the batch does to them.
 unfoldable pub tried_on : RecoveredRaftStorage → List ℕ → RaftReplicaIdentity → RaftPersistenceBatch → List ℕ → Own → Ran
 tried_on s st d b lent o = prepare_ran d b lent (beginning o.head (entries_in s o.place)) (block_of st o)
+
+-- What was tried, with the bytes of the block.
+abbrev pub ran_of : TriedBatch → List ℕ → Ran
+ran_of d cs = ran_with d.answer d.preview cs

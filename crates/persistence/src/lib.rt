@@ -3,8 +3,7 @@
 
 ghost use Rattle.std.specs.Prelude.{◌≡◌, [], ◌++◌, ◌+◌, ◌<◌, ◌≤◌, length};
 ghost use Rattle.storage.specs.Model.{entries_in};
-ghost use Rattle.preview.specs.Preview.{ran_of};
-ghost use Rattle.persistence.specs.Tries.{Kept, tried_on};
+ghost use Rattle.persistence.specs.Tries.{Kept, ran_of, tried_on};
 ghost use Rattle.persistence.specs.Answer.{record_with, entry_records, records_in, PreparesBatch};
 
 use arrayvec::ArrayVec;
@@ -14,7 +13,7 @@ use codec::{
     RaftWalRecord,
 };
 use ids::{RaftReplicaIdentity, Refusal};
-use preview::Extended;
+use preview::Preview;
 use readers::{Own, SoundStorage};
 use storage::RecoveredRaftStorage;
 use view::RecoveredRaftLogEntry;
@@ -40,6 +39,13 @@ fn entries_at(state: RecoveredRaftStorage, p: usize) -> [RecoveredRaftLogEntry; 
     es
 }
 
+// The answer to a batch that was tried, and the preview that it left.
+#[derive(Clone, Copy, Debug, PartialEq, Eq)]
+pub struct TriedBatch {
+    pub answer: Result<(), Refusal>,
+    pub preview: Preview,
+}
+
 // A batch on what is kept of its replica, `own`: on copies of its entries and of its block.
 pub fn try_batch(
     state: RecoveredRaftStorage,
@@ -48,15 +54,16 @@ pub fn try_batch(
     identity: RaftReplicaIdentity,
     batch: RaftPersistenceBatch,
     lent: &[u8],
-) -> Extended
+) -> TriedBatch
     requires { Kept state store.now own }
     ensures { ran_of result (tried_on state store.now identity batch.entry lent.now own).bytes ≡ tried_on state store.now identity batch.entry lent.now own }
 {
-    let entries = entries_at(state, own.place);
+    let mut preview = prepare::begin(own.head, entries_at(state, own.place));
     let at = 4096 * own.place;
     let mut block = [0u8; 4096];
     store::copy_in(&mut block, 0, &store[at..at + 64 * own.head.len]);
-    prepare::prepare_on(own.head, entries, identity, batch, &mut block, lent)
+    let answer = prepare::prepare_on(&mut preview, identity, batch, &mut block, lent);
+    TriedBatch { answer, preview }
 }
 
 fn record(body: RaftWalRecord) -> PreparedRecord

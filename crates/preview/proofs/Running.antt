@@ -22,11 +22,10 @@ use Rattle.view.specs.Meaning.{base_of}
 use Rattle.view.specs.Readers.{place_of}
 use Rattle.view.proofs.Readers.{Held, held_at_lem}
 use Rattle.batches.specs.declared.BatchEntry.{BatchEntry}
-use Rattle.preview.specs.declared.Extended.{Extended}
 use Rattle.preview.specs.declared.Preview.{Preview}
 use Rattle.batches.specs.Checks.{entry_form_rows}
 use Rattle.batches.specs.Meaning.{blank, record_of}
-use Rattle.preview.specs.Preview.{holds_at, within, spot_in, spot_of, Ran, ran_of, ran, taken_at, formed_by, entry_ran, onward, extend_over, Sits, Takes}
+use Rattle.preview.specs.Preview.{holds_at, within, spot_in, spot_of, Ran, ran_with, ran, taken_at, formed_by, entry_ran, onward, extend_over, Sits, Takes}
 use Rattle.preview.specs.Extends.{Next}
 use Rattle.preview.proofs.Supplied.{entry_next}
 
@@ -96,8 +95,8 @@ module _ (d : RaftReplicaIdentity) (es : List BatchEntry) (lent : List ℕ) wher
 
   module _ (p₀ : Preview) (cs₀ : List ℕ) (p : Preview) (cs : List ℕ) (o : Result (Unit {0}) Refusal) (i : ℕ) (k : Running p₀ cs₀ p cs o i) where
     -- all were taken
-    pub run_end : length es ≤ i → ran_of (record { answer = o; preview = p }) cs ≡ extend_over d es lent p₀ cs₀
-    run_end l = ap (λ (a : Result (Unit {0}) Refusal). ran_of (record { answer = a; preview = p }) cs) k.ready ∙ sym (k.whole ∙ extend_none i p cs l)
+    pub run_end : length es ≤ i → ran_with o p cs ≡ extend_over d es lent p₀ cs₀
+    run_end l = ap (λ (a : Result (Unit {0}) Refusal). ran_with a p cs) k.ready ∙ sym (k.whole ∙ extend_none i p cs l)
 
     module _ (l : i < length es) (r : RaftLogEntryRecord) (er : r ≡ own i) (a : Result (Unit {0}) Refusal) (ea : checked_of a ≡ first_of (entry_form_rows p.lsn (log_entry_of r lent))) where
       step : extend_over d es lent p₀ cs₀ ≡ onward (one i p cs).refused (one i p cs) (rest i (one i p cs))
@@ -108,7 +107,7 @@ module _ (d : RaftReplicaIdentity) (es : List BatchEntry) (lent : List ℕ) wher
       unfolding entry_ran
       formed_out c w = ap (λ (z : Option ℕ). formed_by z p cs (taken_at p (spot_of p.head r.index) r cs lent)) w
 
-      pub run_formed : (why : Refusal) → a ≡ Err why → ran_of (record { answer = Err why; preview = p }) cs ≡ extend_over d es lent p₀ cs₀
+      pub run_formed : (why : Refusal) → a ≡ Err why → ran_with (Err why) p cs ≡ extend_over d es lent p₀ cs₀
       run_formed why w =
           sym
           (step
@@ -123,29 +122,29 @@ module _ (d : RaftReplicaIdentity) (es : List BatchEntry) (lent : List ℕ) wher
         pub run_takes : Takes p q r cs lent
         run_takes = record { sits = k.sits; place = place; formed = formed }
 
-        module _ (t : Extended) (cs' : List ℕ) (et : ran_of t cs' ≡ taken_at p q r cs lent) where
+        module _ (z : Result (Unit {0}) Refusal) (t : Preview) (cs' : List ℕ) (et : ran_with z t cs' ≡ taken_at p q r cs lent) where
           formed_in : entry_ran p r cs lent ≡ taken_at p q r cs lent
           unfolding entry_ran
           formed_in =
               ap (λ (z : Option ℕ). formed_by z p cs (taken_at p (spot_of p.head r.index) r cs lent)) formed
               ∙ ap (λ (z : ℕ). taken_at p z r cs lent) (sym place)
 
-          one_is : one i p cs ≡ ran_of t cs'
+          one_is : one i p cs ≡ ran_with z t cs'
           one_is = ap (λ (z : RaftLogEntryRecord). entry_ran p z cs lent) (sym er) ∙ formed_in ∙ sym et
 
-          pub run_refused : (why : Refusal) → t.answer ≡ Err why → ran_of (record { answer = Err why; preview = t.preview }) cs' ≡ extend_over d es lent p₀ cs₀
+          pub run_refused : (why : Refusal) → z ≡ Err why → ran_with (Err why) t cs' ≡ extend_over d es lent p₀ cs₀
           run_refused why w =
-              ap (λ (z : Result (Unit {0}) Refusal). ran_of (record { answer = z; preview = t.preview }) cs') (sym w)
-              ∙ sym (step ∙ turn_ends (one i p cs) (ran_of t cs') (rest i) _ one_is (ap checked_of w))
+              ap (λ (a : Result (Unit {0}) Refusal). ran_with a t cs') (sym w)
+              ∙ sym (step ∙ turn_ends (one i p cs) (ran_with z t cs') (rest i) _ one_is (ap checked_of w))
 
-          pub run_next : r.index ≤ u64_max → t.answer ≡ (Ok tt) → Running p₀ cs₀ t.preview cs' o (i + 1)
+          pub run_next : r.index ≤ u64_max → z ≡ (Ok tt) → Running p₀ cs₀ t cs' o (i + 1)
           run_next small w =
-              let y : entry_ran p r cs lent ≡ ran_of t cs' = formed_in ∙ sym et in
+              let y : entry_ran p r cs lent ≡ ran_with z t cs' = formed_in ∙ sym et in
               let m : Next p cs (log_entry_of r lent) (entry_ran p r cs lent) = entry_next p cs k.sits r lent (λ c. small) (ap (λ (z : Ran). z.refused) y ∙ ap checked_of w) in
-              let m' : Next p cs (log_entry_of r lent) (ran_of t cs') = rw y at m in
+              let m' : Next p cs (log_entry_of r lent) (ran_with z t cs') = rw y at m in
               record {
                 ready = k.ready;
                 sits = record { fits = m'.means.fits; places = m'.means.places; bytes = m'.means.bytes };
-                whole = step ∙ turn_goes (one i p cs) (ran_of t cs') (rest i) one_is (ap checked_of w);
+                whole = step ∙ turn_goes (one i p cs) (ran_with z t cs') (rest i) one_is (ap checked_of w);
                 long = omega (arith, m'.means.bytes, k.sits.bytes, k.long);
               }

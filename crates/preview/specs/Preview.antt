@@ -1,10 +1,11 @@
 -- The model of the entries of a batch on a preview: what one does, and what the rest of them do.
 -- Assumes nothing.
-use Rattle.std.specs.Prelude.{ℕ, ◌+◌, ◌-◌, ◌≡◌, List, [], ◌∷◌, Bool, ◌&&◌, length, get_or, set, if◌then◌else◌, Option, None, Some}
+use Rattle.std.specs.Prelude.{ℕ, ◌+◌, ◌-◌, ◌≡◌, List, [], ◌∷◌, Bool, ◌&&◌, length, get_or, set, if◌then◌else◌, Option, None, Some, Result}
 use Rattle.definition.specs.Table.{◌=?◌, ◌<?◌, ◌≤?◌, first_of}
 use Rattle.definition.specs.Log as D
 use Rattle.ids.specs.declared.Lsn.{Lsn}
 use Rattle.ids.specs.declared.RaftReplicaIdentity.{RaftReplicaIdentity}
+use Rattle.ids.specs.declared.Refusal.{Refusal}
 use Rattle.ids.specs.Refusal.{checked_of}
 use Rattle.codec.specs.declared.RaftLogEntryRecord.{RaftLogEntryRecord}
 use Rattle.codec.specs.Records.{log_entry_of}
@@ -16,7 +17,6 @@ use Rattle.view.specs.Readers.{place_of}
 use Rattle.replay.specs.Plan.{look_of, existing_in, prior_in, Plan, entry_plan}
 use Rattle.batches.specs.declared.BatchEntry.{BatchEntry}
 use Rattle.preview.specs.declared.Preview.{Preview}
-use Rattle.preview.specs.declared.Extended.{Extended}
 use Rattle.batches.specs.Checks.{entry_form_rows}
 use Rattle.batches.specs.Meaning.{record_of}
 
@@ -58,8 +58,9 @@ pub record Ran : Type 0 where
   pub preview : Preview
   pub bytes : List ℕ
 
-abbrev pub ran_of : Extended → List ℕ → Ran
-ran_of d cs = record { refused = checked_of d.answer; preview = d.preview; bytes = cs }
+-- By the answer.
+abbrev pub ran_with : Result (Unit {0}) Refusal → Preview → List ℕ → Ran
+ran_with a p cs = record { refused = checked_of a; preview = p; bytes = cs }
 
 abbrev pub ran : Option ℕ → Preview → List ℕ → Ran
 ran o p cs = record { refused = o; preview = p; bytes = cs }

@@ -3,7 +3,7 @@
 
 ghost use Rattle.std.specs.Prelude.{◌≡◌, ◌<◌, ◌≤◌};
 ghost use Rattle.replay.specs.Plan.{planned, Replayable};
-ghost use Rattle.preview.specs.Preview.{supply_plan, holds_at, within, ran_of, taken_at, extend_over, Sits, Takes};
+ghost use Rattle.preview.specs.Preview.{supply_plan, holds_at, within, ran_with, taken_at, extend_over, Sits, Takes};
 
 use batches::{BatchEntry, entry};
 use codec::RaftLogEntryRecord;
@@ -18,12 +18,6 @@ pub struct Preview {
     pub head: Header,
     pub entries: [RecoveredRaftLogEntry; 64],
     pub lsn: u64,
-}
-
-#[derive(Clone, Copy, Debug, PartialEq, Eq)]
-pub struct Extended {
-    pub answer: Result<(), Refusal>,
-    pub preview: Preview,
 }
 
 // An entry of a batch (25 to 32): e stands at the place looked at, `prior` at the one of the index before. Its bytes are written to
@@ -62,69 +56,57 @@ fn place_within(q: usize) -> usize
 
 // An entry whose form is good, at place q: taken with the next LSN, or refused (25 to 32).
 fn take_entry(
-    preview: Preview,
+    preview: &mut Preview,
     q: usize,
     r: RaftLogEntryRecord,
     block: &mut [u8],
     lent: &[u8],
-) -> Extended
-    requires { Takes preview q r block.old lent.now }
-    ensures { ran_of result block.new ≡ taken_at preview q r block.old lent.now }
+) -> Result<(), Refusal>
+    requires { Takes preview.old q r block.old lent.now }
+    ensures { ran_with result preview.new block.new ≡ taken_at preview.old q r block.old lent.now }
 {
     let head = preview.head;
     let e = preview.entries[q];
     let prior = preview.entries[replay::look_before(head, r.index)];
     let lsn = preview.lsn + 1;
     let change = supply(head, e, prior, r, Lsn(lsn), block, lent);
-    if let Err(why) = change.answer {
-        return Extended {
-            answer: Err(why),
-            preview,
-        };
-    }
-    let mut t = preview;
-    t.head = change.head;
-    t.entries[q] = change.entry;
-    t.lsn = lsn;
-    Extended {
-        answer: Ok(()),
-        preview: t,
-    }
+    change.answer?;
+    preview.head = change.head;
+    preview.entries[q] = change.entry;
+    preview.lsn = lsn;
+    Ok(())
 }
 
 // The entries of a batch in their order, until the first refusal: the form of each (46, 3, 8, 9, 4, 10), the place at which its
 // index is held, and what that says (25 to 32). An entry may replace one that the batch brought before.
 pub fn extend(
-    preview: Preview,
+    preview: &mut Preview,
     identity: RaftReplicaIdentity,
     entries: &[BatchEntry],
     block: &mut [u8],
     lent: &[u8],
-) -> Extended
-    requires { Sits preview block.old }
-    ensures { ran_of result block.new ≡ extend_over identity entries.now lent.now preview block.old }
+) -> Result<(), Refusal>
+    requires { Sits preview.old block.old }
+    ensures { ran_with result preview.new block.new ≡ extend_over identity entries.now lent.now preview.old block.old }
 {
-    let mut t = preview;
     let mut answer = Ok(());
     'batch: for entry in entries {
         let r = entry.record(identity);
-        if let Err(why) = entry::check_entry(t.lsn, r, lent) {
+        if let Err(why) = entry::check_entry(preview.lsn, r, lent) {
             answer = Err(why);
             break 'batch;
         }
-        let mut q = t.head.len;
-        for k in 0..t.head.len {
-            if holds(t.head, k, r.index) {
+        let mut q = preview.head.len;
+        for k in 0..preview.head.len {
+            if holds(preview.head, k, r.index) {
                 q = k;
                 break;
             }
         }
-        let taken = take_entry(t, place_within(q), r, block, lent);
-        t = taken.preview;
-        if let Err(why) = taken.answer {
+        if let Err(why) = take_entry(preview, place_within(q), r, block, lent) {
             answer = Err(why);
             break 'batch;
         }
     }
-    Extended { answer, preview: t }
+    answer
 }

@@ -24,10 +24,10 @@ use Rattle.readers.proofs.Sound.{Parts, refused_parts, opened_is}
 use Rattle.readers.proofs.Owns.{Owns}
 use Rattle.batches.specs.declared.RaftPersistenceBatch.{RaftPersistenceBatch}
 use Rattle.batches.specs.Meaning.{entries_of, batch_of}
-use Rattle.preview.specs.declared.Extended.{Extended}
-use Rattle.preview.specs.Preview.{Ran, ran_of}
+use Rattle.persistence.specs.declared.TriedBatch.{TriedBatch}
+use Rattle.preview.specs.Preview.{Ran}
 use Rattle.persistence.specs.Prepares.{batch_records, Prepares}
-use Rattle.persistence.specs.Tries.{tried_on}
+use Rattle.persistence.specs.Tries.{ran_of, tried_on}
 use Rattle.persistence.proofs.Prepared.{Low}
 use Rattle.persistence.proofs.Answered.{told_refused}
 use Rattle.persistence.proofs.Tried.{tried, prepare_sound, prepare_unsound}
@@ -86,7 +86,7 @@ module _ (s : RecoveredRaftStorage) (st : List ℕ) (i : RaftReplicaIdentity) (b
     shows_sound y e = record { means = λ t. e; refused = λ t. absurd (true≢false (sym w.test ∙ t)); unsound = λ u. e }
 
     -- A refused preparation shows nothing, any other what its preview does.
-    module _ (d : Extended) (e : ran_of d (tried_on s st i b lent o).bytes ≡ tried_on s st i b lent o) where
+    module _ (d : TriedBatch) (e : ran_of d (tried_on s st i b lent o).bytes ≡ tried_on s st i b lent o) where
       pub shows_refused : (why : Refusal) → d.answer ≡ Err why → ShowsAt s st i b lent index (λ x. x) M.nothing
       unfolding M.shown_in
       shows_refused why q = shows_sound M.nothing (go (tried w b lent (inr low)))

@@ -2,12 +2,12 @@
 use Rattle.persistence.proofs.Tried.{try_sits, try_ran}
 use Rattle.persistence.proofs.try_batch.Goals as goal
 
-pub prepare_on-requires : goal.prepare_on-requires
-prepare_on-requires c =
+pub prepare_on-answer-requires : goal.prepare_on-answer-requires
+prepare_on-answer-requires c =
     let a = c.args in
-    try_sits a.state a.store.now a.own _ _ c.entries_at-entries.ensures c.copy_in.ensures c.requires
+    try_sits a.state a.store.now a.own _ _ c.entries_at.ensures c.copy_in.ensures _ c.begin-preview.ensures c.requires
 
 pub returns : goal.returns
 returns c =
     let a = c.args in
-    try_ran a.state a.store.now a.own _ _ c.entries_at-entries.ensures c.copy_in.ensures a.identity a.batch a.lent.now c.prepare_on.result _ c.prepare_on.ensures
+    try_ran a.state a.store.now a.own _ _ c.entries_at.ensures c.copy_in.ensures _ c.begin-preview.ensures a.identity a.batch a.lent.now _ _ c.prepare_on-answer.ensures

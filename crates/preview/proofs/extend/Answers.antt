@@ -11,9 +11,9 @@ use Rattle.preview.proofs.extend.Goals.{else-loop-k-test, then-loop-k-test+then-
 pub loop-k-preserved : goal.loop-k-preserved
 loop-k-preserved c = (search rules, below_more _ _ c.loop-k.invariant.1 (sym c.holds.ensures ∙ c.if-holds.false))
 
-pub take_entry-taken-requires : goal.take_entry-taken-requires
-take_entry-taken-requires c =
-    let h = c.batch.t.head in
+pub take_entry-requires : goal.take_entry-requires
+take_entry-requires c =
+    let h = c.batch.preview.head in
     let x = c.record-r.result.index in
     let spot : c.place_within.result ≡ spot_of h x =
     c.place_within.ensures
@@ -22,12 +22,12 @@ take_entry-taken-requires c =
       | then-loop-k-test+then-holds w ↦ ap within w.q-is ∙ spot_found h x c.loop-k.k c.batch.invariant.sits.fits.short w.loop-k-test.true (sym w.holds.ensures ∙ w.if-holds.true)
     ])
     in
-    run_takes c.args.identity c.args.entries.now c.args.lent.now c.args.preview c.args.block.now c.batch.t c.batch.block c.batch.answer-1 c.batch.entry-index c.batch.invariant
+    run_takes c.args.identity c.args.entries.now c.args.lent.now c.args.preview.now c.args.block.now c.batch.preview c.batch.block c.batch.answer-1 c.batch.entry-index c.batch.invariant
     c.batch-test.true c.record-r.result c.record-r.ensures c.check_entry.result c.check_entry.ensures c.in_default.is c.place_within.result spot
 
 pub batch-preserved : goal.batch-preserved
 batch-preserved c =
-    let h = c.batch.t.head in
+    let h = c.batch.preview.head in
     let x = c.record-r.result.index in
     let spot : c.place_within.result ≡ spot_of h x =
     c.place_within.ensures
@@ -36,20 +36,20 @@ batch-preserved c =
       | then-loop-k-test+then-holds w ↦ ap within w.q-is ∙ spot_found h x c.loop-k.k c.batch.invariant.sits.fits.short w.loop-k-test.true (sym w.holds.ensures ∙ w.if-holds.true)
     ])
     in
-    run_next c.args.identity c.args.entries.now c.args.lent.now c.args.preview c.args.block.now c.batch.t c.batch.block c.batch.answer-1 c.batch.entry-index c.batch.invariant
+    run_next c.args.identity c.args.entries.now c.args.lent.now c.args.preview.now c.args.block.now c.batch.preview c.batch.block c.batch.answer-1 c.batch.entry-index c.batch.invariant
     c.batch-test.true c.record-r.result c.record-r.ensures c.check_entry.result c.check_entry.ensures c.in_default.is c.place_within.result spot
-    c.take_entry-taken.result _ c.take_entry-taken.ensures (omega (arith, c.record-r.type_inv)) c.in_default-answer.is
+    c.take_entry.result _ _ c.take_entry.ensures (omega (arith, c.record-r.type_inv)) c.in_default-take_entry.is
 
 pub returns-after-batch : goal.returns-after-batch
-returns-after-batch c = run_end c.args.identity c.args.entries.now c.args.lent.now c.args.preview c.args.block.now c.batch.t c.batch.block c.batch.answer-1 c.batch.entry-index c.batch.invariant c.batch-test.false
+returns-after-batch c = run_end c.args.identity c.args.entries.now c.args.lent.now c.args.preview.now c.args.block.now c.batch.preview c.batch.block c.batch.answer-1 c.batch.entry-index c.batch.invariant c.batch-test.false
 
 pub returns-in-Err : goal.returns-in-Err
-returns-in-Err c = run_formed c.args.identity c.args.entries.now c.args.lent.now c.args.preview c.args.block.now c.batch.t c.batch.block c.batch.answer-1 c.batch.entry-index c.batch.invariant
+returns-in-Err c = run_formed c.args.identity c.args.entries.now c.args.lent.now c.args.preview.now c.args.block.now c.batch.preview c.batch.block c.batch.answer-1 c.batch.entry-index c.batch.invariant
     c.batch-test.true c.record-r.result c.record-r.ensures c.check_entry.result c.check_entry.ensures _ c.in-Err.is
 
-pub returns-in-Err-answer : goal.returns-in-Err-answer
-returns-in-Err-answer c =
-    let h = c.batch.t.head in
+pub returns-in-Err-take_entry : goal.returns-in-Err-take_entry
+returns-in-Err-take_entry c =
+    let h = c.batch.preview.head in
     let x = c.record-r.result.index in
     let spot : c.place_within.result ≡ spot_of h x =
     c.place_within.ensures
@@ -58,6 +58,6 @@ returns-in-Err-answer c =
       | then-loop-k-test+then-holds w ↦ ap within w.q-is ∙ spot_found h x c.loop-k.k c.batch.invariant.sits.fits.short w.loop-k-test.true (sym w.holds.ensures ∙ w.if-holds.true)
     ])
     in
-    run_refused c.args.identity c.args.entries.now c.args.lent.now c.args.preview c.args.block.now c.batch.t c.batch.block c.batch.answer-1 c.batch.entry-index c.batch.invariant
+    run_refused c.args.identity c.args.entries.now c.args.lent.now c.args.preview.now c.args.block.now c.batch.preview c.batch.block c.batch.answer-1 c.batch.entry-index c.batch.invariant
     c.batch-test.true c.record-r.result c.record-r.ensures c.check_entry.result c.check_entry.ensures c.in_default.is c.place_within.result spot
-    c.take_entry-taken.result _ c.take_entry-taken.ensures _ c.in-Err-answer.is
+    c.take_entry.result _ _ c.take_entry.ensures _ c.in-Err-take_entry.is

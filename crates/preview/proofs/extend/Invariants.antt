@@ -7,7 +7,7 @@ use Rattle.preview.proofs.Running.{Running}
 use Rattle.preview.proofs.extend.Given as goal
 
 abbrev pub invariant-loop-k : goal.invariant-loop-k
-invariant-loop-k l = (l.q ≡ l.t.head.len) × ((j : ℕ) → j < l.k → holds_at l.t.head j l.r.index ≡ false)
+invariant-loop-k l = (l.q ≡ l.preview.head.len) × ((j : ℕ) → j < l.k → holds_at l.preview.head j l.r.index ≡ false)
 
 abbrev pub invariant-batch : goal.invariant-batch
-invariant-batch l = Running l.identity l.entries l.lent l.initial.t l.initial.block l.t l.block l.answer l.entry-index
+invariant-batch l = Running l.identity l.entries l.lent l.initial.preview l.initial.block l.preview l.block l.answer l.entry-index

@@ -11,7 +11,7 @@ use Rattle.persistence.proofs.prepare.move_entries.Goals as goal
 
 pub returns : goal.returns
 returns c =
-    let p = c.args.preview in
+    let p = c.args.preview.now in
     let l : length p.entries ≡ 64 = search (rules, c.well_formed) in
     ap (λ (es : List RecoveredRaftLogEntry). (record { head = p.head; entries = es; lsn = p.lsn }))
     (c.copy_within.ensures.after ∙ pasted p.entries 0 c.args.k (p.head.len - c.args.k) _ refl (omega (arith, l, c.requires.0, c.requires.1)))
