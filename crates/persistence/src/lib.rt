@@ -20,7 +20,7 @@ use view::RecoveredRaftLogEntry;
 
 pub mod prepare;
 
-// A record of the answer; its body is always a record of a Raft kind.
+// A record of the answer; its body is always a record of a Raft kind. (An Option, since a list without a heap asks for a blank one.)
 #[derive(Clone, Copy, Debug, PartialEq, Eq, Default, Drop)]
 pub struct PreparedRecord {
     pub body: Option<RaftWalRecord>,
@@ -29,7 +29,7 @@ pub struct PreparedRecord {
 // The records of a batch that may be written, in order: pointer, entries, hard state.
 pub type PreparedBatch = ArrayVec<PreparedRecord, 34>;
 
-// The entries of replica place p.
+// The entries of replica place p, copied.
 fn entries_at(state: RecoveredRaftStorage, p: usize) -> [RecoveredRaftLogEntry; 64]
     requires { p < 8 }
     ensures { result ≡ entries_in state p }

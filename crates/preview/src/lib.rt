@@ -78,7 +78,8 @@ fn take_entry(
 }
 
 // The entries of a batch in their order, until the first refusal: the form of each (46, 3, 8, 9, 4, 10), the place at which its
-// index is held, and what that says (25 to 32). An entry may replace one that the batch brought before.
+// index is held, and what that says (25 to 32). An entry may replace one that the batch brought before. The inner search and the label
+// are the form that document 01 asks for.
 pub fn extend(
     preview: &mut Preview,
     identity: RaftReplicaIdentity,

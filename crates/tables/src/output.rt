@@ -8,7 +8,8 @@ use codec::HardState;
 use ids::{RaftReplicaIdentity, ReplicaId};
 use std::marker::Model;
 
-// What a program prints, at most N bytes. Contracts see the text. The invariant: the text is within the bytes.
+// What a program prints, at most N bytes. Contracts see the text. The invariant: the text is within the bytes. (By hand: an ArrayVec
+// of bytes answers each time whether they fit, which is a `requires` here.)
 #[derive(Drop)]
 pub struct Output<const N: usize> {
     bytes: [u8; N],
