@@ -32,7 +32,7 @@ use Rattle.batches.specs.Meaning.{entries_of, batch_of}
 use Rattle.batches.proofs.Entries.{entries_count}
 use Rattle.persistence.specs.declared.TriedBatch.{TriedBatch}
 use Rattle.preview.specs.declared.Preview.{Preview}
-use Rattle.preview.specs.Preview.{Ran, ran_with, formed_by, Sits}
+use Rattle.preview.specs.Preview.{Ran, formed_by, Sits}
 use Rattle.persistence.specs.Prepare.{beginning, pointed_ran, prepare_ran}
 use Rattle.persistence.specs.Prepares.{batch_records, Prepares}
 use Rattle.persistence.specs.Tries.{Kept, ran_of, tried_on}
