@@ -31,12 +31,7 @@ pub struct Sum {
 pub fn hex_digit(b: u8) -> Option<u8>
     ensures { result ≡ hex_of b }
 {
-    match b {
-        b'0'..=b'9' => Some(b - b'0'),
-        b'A'..=b'F' => Some(b - b'A' + 10),
-        b'a'..=b'f' => Some(b - b'a' + 10),
-        _ => None,
-    }
+    Some(char::from(b).to_digit(16)? as u8)
 }
 
 // One more digit of a decimal number.
