@@ -1,15 +1,10 @@
 -- `extend` meets its contract.
 use native.Mathlib.Omega.{arith}
 use mathlib.Core.Path.{◌≡◌, sym, ap, ◌∙◌}
-use borrow.Author.Rules.{rules}
-use borrow.Author.Count.{below_more}
 use Rattle.preview.specs.Preview.{within, spot_of}
 use Rattle.preview.proofs.Running.{spot_found, spot_missing, run_end, run_formed, run_takes, run_refused, run_next}
 use Rattle.preview.proofs.extend.Goals as goal
 use Rattle.preview.proofs.extend.Goals.{else-loop-k-test, then-loop-k-test+then-holds}
-
-pub loop-k-preserved : goal.loop-k-preserved
-loop-k-preserved c = (search rules, below_more _ _ c.loop-k.invariant.1 (sym c.holds.ensures ∙ c.if-holds.false))
 
 pub take_entry-requires : goal.take_entry-requires
 take_entry-requires c =
