@@ -1,9 +1,6 @@
 -- `prepare_batch` meets its contract.
-use Rattle.persistence.proofs.Answered.{unsound_refused, sound_prepared}
+use Rattle.persistence.proofs.Answered.{unsound_refused}
 use Rattle.persistence.proofs.prepare_batch.Goals as goal
 
 pub returns-in_err-new : goal.returns-in_err-new
 returns-in_err-new c = unsound_refused c.args.batch c.args.lent.now c.new.ensures c.in_err-new.was _ c.from_residual.ensures.1
-
-pub returns : goal.returns
-returns c = sound_prepared c.args.batch c.args.lent.now c.new.ensures c.in_ok-new.was c.prepare_sound.ensures

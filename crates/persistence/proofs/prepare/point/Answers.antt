@@ -1,6 +1,5 @@
 -- `prepare::point` meets its contract.
 use Prim.Native.Nat.{◌<◌, ◌≤◌}
-use native.Mathlib.Omega.{arith}
 use Rattle.definition.specs.Table.{u64_max}
 use Rattle.ids.specs.Identity.{identity_of}
 use Rattle.replay.proofs.Written.{covered_few, dropped_is}
@@ -18,12 +17,6 @@ overflow_add-lsn c =
     let a = c.args in
     let l : a.preview.now.lsn < u64_max = point_lsn (identity_of a.identity) a.preview.now a.p a.block.now c.held_at-held.result c.check_pointer.result c.held_at-held.ensures c.check_pointer.ensures c.in_ok-check_pointer.was in
     search rules
-
-pub move_entries-requires : goal.move_entries-requires
-move_entries-requires c =
-    let a = c.args in
-    let l : c.covered_by-k.result ≤ a.preview.now.head.len = omega (arith, c.covered_by-k.ensures) in
-    (l, c.requires.fits.short)
 
 pub returns : goal.returns
 returns c =

@@ -11,9 +11,6 @@ loop-taken-init c =
     let all : length a.state.entries ≡ 512 = search rules in
     chunk_start a.state a.store.now a.records.now a.lent.now eight all (sym c.is_sound.ensures ∙ c.if-not-is_sound.false)
 
-pub observe_next-answer-requires : goal.observe_next-answer-requires
-observe_next-answer-requires c = c.loop-taken.invariant.running.ready
-
 pub returns-then-is_err : goal.returns-then-is_err
 returns-then-is_err c =
     let a = c.args in
