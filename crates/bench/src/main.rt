@@ -92,7 +92,7 @@ fn next_record(replicas: &mut [Replica; 6], i: usize) -> WalRecord
     }
 }
 
-// In chunks of 256 records.
+// In chunks of 256 records, by number: each record follows from its own.
 fn make_journal() -> [[WalRecord; 256]; 16] {
     let mut chunks = [[WalRecord::default(); 256]; 16];
     let mut replicas = [Replica {

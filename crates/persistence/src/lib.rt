@@ -104,7 +104,8 @@ fn records_of(identity: RaftReplicaIdentity, batch: RaftPersistenceBatch) -> Pre
 }
 
 // A batch of a replica of a sound state, whose commands stand in the lent bytes: refused, or the records to write. An identity that
-// is not held is tried against an empty replica.
+// is not held is tried against an empty replica. Identity, batch and lent bytes are the caller's three things, here and below, as
+// document 01's call has them; as one they are no plainer.
 pub fn prepare_sound(
     sound: &SoundStorage,
     identity: RaftReplicaIdentity,

@@ -12,7 +12,8 @@ use replay::Change;
 use view::{Header, RecoveredRaftLogEntry};
 
 // The log as the entries so far would leave it, and the LSN of the last of them. Entries stand in places as in a state (document 01),
-// as many as the header says; their commands in a block of 4,096 bytes that is lent beside it.
+// as many as the header says; their commands in a block of 4,096 bytes that is lent beside it, so that what fits them together (`Sits`) is
+// asked.
 #[derive(Clone, Copy, Debug, PartialEq, Eq)]
 pub struct Preview {
     pub head: Header,

@@ -33,7 +33,8 @@ pub fn passes(state: &RecoveredRaftStorage, store: &[u8]) -> bool
     heads.len() == 8 && entries.len() == 512 && soundness::is_sound(state, store)
 }
 
-// Where a replica stands, and its header; an empty one where it is not held.
+// Where a replica stands, and its header; an empty one where it is not held. Of a state that need not be sound: what is asked of it
+// (`held ≤ 8`) stands in the clause.
 pub fn own_of(state: &RecoveredRaftStorage, identity: RaftReplicaIdentity) -> Own
     requires { state.now.held ≤ 8 }
     ensures { result ≡ own_for state.now identity }

@@ -85,6 +85,7 @@ fn count_entries(heads: &[Header]) -> usize
 }
 
 // The lines of the entries of replica place p. An index past 64 bits is their largest number.
+// By place: an entry's index follows from it, and its bounds are the array's and the header's.
 #[tactic(auto, using(crate::proofs::Text::lines_step), unfolding(crate::specs::Model::lines_to))]
 fn put_log(out: &mut Output<65536>, state: RecoveredRaftStorage, p: usize)
     requires { (p < 8) × (length out.old + 6720 ≤ 65536) }
