@@ -8,6 +8,7 @@ use native.Mathlib.Omega.{arith}
 use lib.ListN.{length}
 use Rattle.definition.specs.Log as D
 use Rattle.definition.specs.Recovery.{out}
+use Rattle.definition.proofs.Store.{finish_unsound}
 use Rattle.view.specs.declared.Header.{Header}
 use Rattle.view.specs.Model.{maximum_term, finished}
 use Rattle.storage.specs.declared.RecoveredRaftStorage.{RecoveredRaftStorage}
@@ -18,7 +19,7 @@ use Rattle.soundness.specs.Sound.{sound_test, Limits}
 use Rattle.finishing.specs.Finishes.{finished_done, unsound_done, Finishes}
 use Rattle.storage.proofs.Finish.{finish_none, finish_one, finish_next}
 use Rattle.soundness.proofs.Sound.{test_linked, test_state, test_sound}
-use Rattle.routing.proofs.Observe.{unsound_finished, finished_is, finished_test}
+use Rattle.routing.proofs.Observe.{finished_is, finished_test}
 
 -- One more replica is finished.
 pub finish_turn : (s t : RecoveredRaftStorage) (j m : ℕ) (h : Header) → j < 8 → t ≡ finished_to j s → m ≡ maximum_term (head_at t j) (entries_in t j) → h ≡ finished (head_at t j) m
@@ -71,5 +72,5 @@ finishes_unsound s st d q e =
       stays = λ q'. absurd (true≢false (sym q' ∙ q));
       refused = λ q'. ap (λ (x : Finished). x.answer) e;
       kept = λ q'. ap (λ (x : Finished). x.state) e;
-      unsound = λ q'. unsound_finished s st q' ∙ sym (ap (λ (x : Finished). out (D.refused 1) (recovery_of x.state st)) e);
+      unsound = λ q'. finish_unsound (recovery_of s st) q' ∙ sym (ap (λ (x : Finished). out (D.refused 1) (recovery_of x.state st)) e);
     }

@@ -7,6 +7,7 @@ use mathlib.Core.List.{List}
 use Prim.Native.Nat.{ℕ, ◌<◌}
 use lib.ListN.{length}
 use Rattle.definition.specs.Recovery.{out, observe}
+use Rattle.definition.proofs.Store.{observe_unsound}
 use Rattle.ids.specs.declared.Refusal.{Refusal}
 use Rattle.ids.specs.declared.Refusal.TheVariants as R
 use Rattle.codec.specs.declared.WalRecord.{WalRecord}
@@ -19,7 +20,6 @@ use Rattle.soundness.specs.Sound.{sound_test}
 use Rattle.soundness.proofs.Sound.{test_sound}
 use Rattle.routing.specs.Observe.{Stepped, stepped}
 use Rattle.routing.specs.Admits.{index_in}
-use Rattle.routing.proofs.Observe.{unsound_observed}
 use Rattle.routing.proofs.Ready.{Ready, test_ready, ready_test}
 use Rattle.routing.proofs.Stepped.{stepped_is, stepped_ready}
 use Rattle.recovery.specs.Runs.{Observing}
@@ -54,5 +54,5 @@ module _ (s : RecoveredRaftStorage) (st : List ℕ) (r : WalRecord) (lent : List
         means = λ q. absurd (true≢false (sym q ∙ f));
         stays = λ q l. absurd (true≢false (sym q ∙ f));
         refused = λ q. refl;
-        unsound = λ q. unsound_observed s st q (record_of r lent);
+        unsound = λ q. observe_unsound (recovery_of s st) (record_of r lent) q;
       }

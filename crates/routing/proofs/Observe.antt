@@ -1,16 +1,16 @@
 -- State and store together: what the definition's `observe` and `finish` make of them, and that they stay sound.
 -- Assumes nothing.
 use mathlib.Core.Path.{◌≡◌, refl, sym, ap, ◌∙◌}
-use mathlib.Core.Bool.{Bool, true, false, ◌&&◌, and-true}
+use mathlib.Core.Bool.{Bool, true, false}
 use mathlib.Core.List.{List}
 use Prim.Native.Nat.{ℕ, ◌+◌, ◌<◌}
 use Rattle.definition.specs.Table.{◌≤?◌, if_some, u64_max}
 use Rattle.definition.specs.Records.{Record, content}
 use Rattle.definition.specs.Log.{Answer, refused, finished}
-use Rattle.definition.specs.Recovery.{Out, out, State, sound_state, Recovery, sound_store, sound, routed, guarded, observe_state, finish_state, stored, with_store, observe, finish}
+use Rattle.definition.specs.Recovery.{Out, out, State, sound_state, Recovery, routed, guarded, observe_state, observe, finish}
 use Rattle.definition.specs.Two.{fits}
 use Rattle.definition.proofs.Sound.{sound_step, finish_is, sound_finish}
-use Rattle.definition.proofs.Store.{laid, sound_laid, observe_laid, finish_laid}
+use Rattle.definition.proofs.Store.{laid, observe_laid, finish_laid}
 use Rattle.view.specs.Meaning.{lsn_of}
 use Rattle.storage.specs.declared.RecoveredRaftStorage.{RecoveredRaftStorage}
 use Rattle.storage.specs.Model.{finished_storage}
@@ -19,25 +19,6 @@ use Rattle.soundness.specs.Sound.{sound_test}
 use Rattle.storage.proofs.Store.{recovery_laid}
 use Rattle.storage.proofs.Finish.{finish_means, finish_linked}
 use Rattle.soundness.proofs.Sound.{linked_test}
-
--- 1: what is not sound stays as it is.
-unsound_call : (f : State → Out State) (w : Recovery) → ((t : State) → sound_state t ≡ false → f t ≡ out (refused 1) t) → sound w ≡ false → with_store f w ≡ out (refused 1) w
-unfolding sound with_store stored laid
-unsound_call f w h e = go (sound_store w) refl e
-  where
-    go : (b : Bool) → sound_store w ≡ b → (sound_state w.state && b) ≡ false → with_store f w ≡ out (refused 1) w
-    go false p q = rw (p, with_store)
-    go true p q =
-        let u : sound_state w.state ≡ false = sym (and-true (sound_state w.state)) ∙ q in
-        rw (p, with_store, h w.state u) (ap (λ (x : Recovery). out (refused 1) x) (sym (sound_laid w p)))
-
-state_unsound : (t : State) (r : Record) → sound_state t ≡ false → observe_state t r ≡ out (refused 1) t
-unfolding observe_state guarded
-state_unsound t r e = rw e
-
-finish_unsound : (t : State) → sound_state t ≡ false → finish_state t ≡ out (refused 1) t
-unfolding finish_state
-finish_unsound t e = rw (e, finish_state)
 
 state_stale : (t : State) (r : Record) → sound_state t ≡ true → if_some (λ x. r.lsn ≤? x) t.last_scanned_lsn ≡ true → observe_state t r ≡ out (refused 2) t
 unfolding observe_state guarded
@@ -50,15 +31,6 @@ state_routed t r e q = rw (e, q)
 -- The LSN is at or below the last scanned.
 abbrev pub stale : RecoveredRaftStorage → ℕ → Bool
 stale s lsn = if_some (λ x. lsn ≤? x) (lsn_of s.scan.last_scanned_lsn)
-
-module _ (s : RecoveredRaftStorage) (st : List ℕ) (e : sound (recovery_of s st) ≡ false) where
-  pub unsound_observed : (r : Record) → observe (recovery_of s st) r ≡ out (refused 1) (recovery_of s st)
-  unfolding observe
-  unsound_observed r = unsound_call (λ t. observe_state t r) (recovery_of s st) (λ t u. state_unsound t r u) e
-
-  pub unsound_finished : finish (recovery_of s st) ≡ out (refused 1) (recovery_of s st)
-  unfolding finish
-  unsound_finished = unsound_call finish_state (recovery_of s st) finish_unsound e
 
 module _ (s : RecoveredRaftStorage) (st : List ℕ) (k : Linked s st) (e : sound_state (meaning s st) ≡ true) where
   -- Observing.

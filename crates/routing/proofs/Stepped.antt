@@ -16,6 +16,7 @@ use Rattle.definition.specs.Log as D
 use Rattle.definition.specs.Recovery.{held, Out, out, sound_state, Recovery, sound_store, sound, observe}
 use Rattle.definition.specs.Two.{fits_kind, fits_content, fits}
 use Rattle.definition.proofs.Sound.{over_test}
+use Rattle.definition.proofs.Store.{observe_unsound}
 use Rattle.ids.specs.declared.Lsn.{Lsn}
 use Rattle.ids.specs.declared.RaftReplicaIdentity.{RaftReplicaIdentity}
 use Rattle.ids.specs.Identity.{identity_of}
@@ -52,7 +53,7 @@ use Rattle.storage.proofs.Finding.{is_held, Told, found_told}
 use Rattle.routing.proofs.Routed.{foreign_observes, form_observes}
 use Rattle.routing.proofs.Route.{held_observes, full_is, new_observes}
 use Rattle.routing.proofs.Ready.{Ready, ready_sound, observes_ready, opened_ready}
-use Rattle.routing.proofs.Observe.{stale, unsound_observed, stale_observed, observed_is}
+use Rattle.routing.proofs.Observe.{stale, stale_observed, observed_is}
 
 -- What a plan that drops entries leaves of them.
 abbrev pub Drops : Header → Plan → Type 0
@@ -384,7 +385,7 @@ module _ (s : RecoveredRaftStorage) (st : List ℕ) (r : WalRecord) (lent : List
   stepped_is = go over refl (stale s r.lsn.0) refl
     where
       go : (a : Bool) → over ≡ a → (b : Bool) → stale s r.lsn.0 ≡ b → observe (recovery_of s st) w ≡ out x.answer (recovery_of x.state x.store)
-      go true e b f = unsound_observed s st (over_sound e) w ∙ ap told_by (sym (stepped_stale s st r lent 1 (scan_rows_lem true b e f)))
+      go true e b f = observe_unsound (recovery_of s st) w (over_sound e) ∙ ap told_by (sym (stepped_stale s st r lent 1 (scan_rows_lem true b e f)))
       go false e true f = stale_observed s st ready.linked (room e) w f ∙ ap told_by (sym (stepped_stale s st r lent 2 (scan_rows_lem false true e f)))
       go false e false f = observed_is s st ready.linked (room e) w f x.answer x.state x.store (stepped_observes (scan_rows_lem false false e f))
 
