@@ -36,7 +36,7 @@ words_of() { # CRATE
     echo "-Ldependency=$kit/rlibs" "--antt-project=$kit/rattle/logic/antt-project.json" "--logic-built=$kit/logic_built" --crate-name "$1"
 }
 
-# Checks a copy of a crate, over what a check without an edit kept; once more if it did not come to an end.
+# Checks a copy of a crate, over what a check without an edit kept, if there was one; once more if it did not come to an end.
 check() { # COPY KEPT LOG WORDS..
     for _ in 1 2; do
         (cd "$1" && "$kit/bin/rattle" check "${@:4}" --incremental "$2" "src/$([ -f src/main.rt ] && echo main || echo lib).rt") >"$3" 2>&1 || true
@@ -112,7 +112,7 @@ try() { # CRATE [EDIT]
     tar -c -C "crates/$1" --exclude=out --exclude=must-fail . | tar -x -C "$copy"
     if [ -n "${2:-}" ]; then
         apply "$2" "$copy" 2>"$log" || { echo "does not apply: $(tail -n 1 "$log")" >"$log"; return; }
-        cp -r "$room/$1/kept" "$copy/kept"
+        if [ -d "$room/$1/kept" ]; then cp -r "$room/$1/kept" "$copy/kept"; else mkdir "$copy/kept"; fi
         check "$copy" "$copy/kept" "$log" $(words_of "$1")
         rm -rf "$copy"
     else
@@ -132,14 +132,17 @@ crates=()
 for crate in ${@:-${!uses[@]}}; do
     ! ls crates/"$crate"/must-fail/*.edit >/dev/null 2>&1 || crates+=("$crate")
 done
-for crate in "${crates[@]}"; do at_once "$crate"; done
+# (one edit alone begins with nothing: a check without it would cost as much)
+for crate in "${crates[@]}"; do
+    [ "$(ls crates/"$crate"/must-fail/*.edit | wc -l)" -eq 1 ] || at_once "$crate"
+done
 wait
 for crate in "${crates[@]}"; do
     for edit in crates/"$crate"/must-fail/*.edit; do at_once "$crate" "$edit"; done
 done
 wait
 for crate in "${crates[@]}"; do
-    grep -q '^logic=proved' "$logs/$crate/seed.log" || { say "$crate is not proved as it stands: '$(grep -m 1 error "$logs/$crate/seed.log")'"; continue; }
+    [ ! -e "$logs/$crate/seed.log" ] || grep -q '^logic=proved' "$logs/$crate/seed.log" || { say "$crate is not proved as it stands: '$(grep -m 1 error "$logs/$crate/seed.log")'"; continue; }
     for edit in crates/"$crate"/must-fail/*.edit; do
         judge "$edit" "$logs/$crate/$(basename "$edit" .edit).log"
     done
