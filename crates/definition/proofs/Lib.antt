@@ -17,3 +17,6 @@ pub mod Example
 pub mod Same
 pub mod Chaining
 pub mod Again
+pub mod Healthy
+pub mod Guaranteed
+pub mod Retired

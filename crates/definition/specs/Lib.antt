@@ -6,4 +6,6 @@ pub mod Recovery
 pub mod Batch
 pub mod Two
 pub mod Chaining
+pub mod Healthy
+pub mod Retired
 pub mod Cases

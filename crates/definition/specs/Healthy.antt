@@ -1,0 +1,62 @@
+-- What any healthy journal guarantees (document 02, Q-2). Quoted words are the customer's.
+-- Assumes nothing.
+use Rattle.std.specs.Prelude.{ℕ, ◌+◌, ◌≤◌, ◌≡◌, Bool, true, ◌&&◌, List, [], ◌∷◌, None, Some, option_map, slice_get}
+use Rattle.definition.specs.Table.{◌<?◌, ◌≤?◌, every, u64_max}
+use Rattle.definition.specs.Records.{Identity, Kind, entry, hard_state, pointer, Content, content, Record}
+use Rattle.definition.specs.Log.{Entry, Log, count, last, is_held}
+use Rattle.definition.specs.Recovery.{lookup, fresh, observed, answers, is_accepted}
+use Rattle.definition.specs.Two.{fits, replicas_left}
+
+-- "every pointer index is below 2^64 - 1"
+abbrev pub low_kind : Kind → Bool
+low_kind (entry version e) = true
+low_kind (hard_state version h) = true
+low_kind (pointer p) = p.last_included_index <? u64_max
+
+abbrev pub low_content : Content → Bool
+low_content None = true
+low_content (Some (i, k)) = low_kind k
+
+abbrev pub low_pointer : Record → Bool
+low_pointer r = low_content (content r)
+
+module _ {T : Type 0} where
+  -- "terms never fall along them", from a term on.
+  unfoldable pub never_fall : ℕ → List (Entry T) → Bool
+  never_fall term [] = true
+  never_fall term (e ∷ es) = term ≤? e.term && never_fall e.term es
+
+  pub record Healthy (log : Log T) : Type 0 where
+    -- "each replica's entries run without a gap from boundary plus one": held are the indices above the boundary up to the last, and
+    -- there are as many entries
+    pub without_a_gap : (n : ℕ) → is_held log n ≡ (log.snapshot_index <? n && n ≤? last log)
+    pub as_many : last log ≡ log.snapshot_index + count log
+    -- "starting at the boundary term"
+    pub terms_never_fall : never_fall log.snapshot_term log.entries ≡ true
+    -- "the view's commit is at most the last index, none counting as zero"
+    pub committed : log.committed_index ≤ last log
+
+-- An entry is the one that a record of its replica and index brought, the nth of a list from empty, which was accepted.
+pub record Brought (rs : List Record) (i : Identity) (index : ℕ) (e : Entry ℕ) : Type 0 where
+  pub n : ℕ
+  pub by : Record
+  pub nth : slice_get rs n ≡ Some by
+  pub accepted : option_map is_accepted (slice_get (answers fresh rs) n) ≡ Some true
+  pub lsn : by.lsn ≡ e.lsn
+  pub version : ℕ
+  pub says : content by ≡ Some (i, entry version (record { index = index; term = e.term; payload = e.payload }))
+
+-- What is guaranteed of a replica.
+pub record Guaranteed (rs : List Record) (i : Identity) (log : Log ℕ) : Type 0 where
+  pub healthy : Healthy log
+  pub brought : (q : ℕ) (e : Entry ℕ) → slice_get log.entries q ≡ Some e → Brought rs i (log.snapshot_index + 1 + q) e
+
+-- "for a recovery from empty in which all records were accepted": after the last record, and after finishing. The records are
+-- machines' (`fits`). That all were accepted is not asked: what a refused record leaves is as healthy.
+pub record Guarantee : Type 0 where
+  pub after_the_last :
+      (rs : List Record) → every fits rs ≡ true → every low_pointer rs ≡ true → (i : Identity) (log : Log ℕ)
+      → lookup i (observed fresh rs).state.replicas ≡ Some log → Guaranteed rs i log
+  pub after_finishing :
+      (rs : List Record) → every fits rs ≡ true → every low_pointer rs ≡ true → (i : Identity) (log : Log ℕ)
+      → lookup i (replicas_left rs) ≡ Some log → Guaranteed rs i log
