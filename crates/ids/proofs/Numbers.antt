@@ -9,6 +9,7 @@ use Rattle.ids.specs.declared.Refusal.TheVariants as R
 use Rattle.std.specs.Prelude.{Result, Ok, Err}
 use Rattle.ids.specs.Refusal.{number_of, checked_of, result_of}
 
+-- By number, less one. 29 is reserved: at its place the next stands.
 abbrev refusals : List Refusal
 refusals =
     R.Unsound
@@ -39,7 +40,7 @@ refusals =
     ∷ R.ConflictingPayload
     ∷ R.CommittedPrefixOverwrite
     ∷ R.MissingLogPrefix
-    ∷ R.LogIndexExhausted
+    ∷ R.NonContiguousAppend
     ∷ R.NonContiguousAppend
     ∷ R.LogTermRegression
     ∷ R.LogFull
@@ -101,7 +102,6 @@ found R.EntryAtOrBelowSnapshot = refl
 found R.ConflictingPayload = refl
 found R.CommittedPrefixOverwrite = refl
 found R.MissingLogPrefix = refl
-found R.LogIndexExhausted = refl
 found R.NonContiguousAppend = refl
 found R.LogTermRegression = refl
 found R.LogFull = refl

@@ -33,7 +33,6 @@ number_of R.EntryAtOrBelowSnapshot = 25
 number_of R.ConflictingPayload = 26
 number_of R.CommittedPrefixOverwrite = 27
 number_of R.MissingLogPrefix = 28
-number_of R.LogIndexExhausted = 29
 number_of R.NonContiguousAppend = 30
 number_of R.LogTermRegression = 31
 number_of R.LogFull = 32

@@ -86,8 +86,7 @@ pub enum Refusal {
     CommittedPrefixOverwrite,
     // 28. No entries, no boundary, index not 1.
     MissingLogPrefix,
-    // 29. Index not held and the last index is 2^64 - 1.
-    LogIndexExhausted,
+    // 29 is reserved: no journal and no batch meets it (retired).
     // 30. Index neither held nor the last plus 1 (none is 0).
     NonContiguousAppend,
     // 31. Append or replacement: term below the predecessor's (entry or boundary).
@@ -178,7 +177,6 @@ impl Refusal {
             Refusal::ConflictingPayload => 26,
             Refusal::CommittedPrefixOverwrite => 27,
             Refusal::MissingLogPrefix => 28,
-            Refusal::LogIndexExhausted => 29,
             Refusal::NonContiguousAppend => 30,
             Refusal::LogTermRegression => 31,
             Refusal::LogFull => 32,

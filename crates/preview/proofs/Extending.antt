@@ -1,26 +1,24 @@
 -- The entries of a batch on a preview are the definition's: refused by the number that ends it, or what follows them is asked on the
 -- preview that they leave.
 -- Assumes nothing.
-use Rattle.std.specs.Prelude.{◌⊎◌, Option, None, Some, Result, Err}
+use Rattle.std.specs.Prelude.{Option, None, Some, Result, Err}
 use mathlib.Core.Path.{◌≡◌, refl, sym, ap, subst, ◌∙◌}
 use mathlib.Core.Logic.{inl, inr}
 use mathlib.Core.List.{List, [], ◌∷◌, append_assoc, append-nil}
-use Prim.Native.Nat.{ℕ, suc, ◌+◌, ◌≤◌}
-use lib.ListN.{get_or}
-use Rattle.definition.specs.Table.{Row, first_of, u64_max}
+use Prim.Native.Nat.{ℕ, ◌+◌}
+use Rattle.definition.specs.Table.{Row, first_of}
 use Rattle.definition.specs.Records.{Identity, entry}
 use Rattle.definition.specs.Log as D
 use Rattle.definition.specs.Batch as M
-use Rattle.definition.proofs.Laws.{Clear}
 use Rattle.ids.specs.declared.RaftReplicaIdentity.{RaftReplicaIdentity}
 use Rattle.codec.specs.Records.{log_entry_of}
 use Rattle.view.specs.Meaning.{view_of, Means}
 use Rattle.batches.specs.declared.BatchEntry.{BatchEntry}
 use Rattle.preview.specs.declared.Preview.{Preview}
-use Rattle.batches.specs.Meaning.{blank, entry_of, entries_of, record_of}
-use Rattle.preview.specs.Preview.{Ran, entry_ran, onward, extend_over, Sits}
+use Rattle.batches.specs.Meaning.{entry_of, entries_of, record_of}
+use Rattle.preview.specs.Preview.{Ran, entry_ran, onward, extend_over, Reached, Sits}
 use Rattle.preview.specs.Extends.{Next, records_of, Extends}
-use Rattle.preview.proofs.Supplied.{replayed_rows, index_low, entry_next, entry_refuses}
+use Rattle.preview.proofs.Supplied.{entry_next, entry_refuses}
 
 -- Refused by the first row, else what follows.
 pub refused_by : (rows : List Row) (v : M.Preview) (go : M.Preview → Result M.Preview ℕ) (n : ℕ) → first_of rows ≡ Some n → M.previewed rows v go ≡ Err n
@@ -28,10 +26,6 @@ refused_by rows v go n w = rw (w, M.previewed)
 
 pub passed_by : (rows : List Row) (v : M.Preview) (go : M.Preview → Result M.Preview ℕ) → first_of rows ≡ None → M.previewed rows v go ≡ go v
 passed_by rows v go w = rw (w, M.previewed)
-
--- Indices of 64 bits: the entries', or the boundary's.
-abbrev pub Bounded : List BatchEntry → D.Log ℕ → Type 0
-Bounded es log = ((k : ℕ) → (get_or es k blank).index ≤ u64_max) ⊎ (log.snapshot_index ≤ u64_max)
 
 module _ (i : Identity) (batch : M.Batch) (was : D.Log ℕ) where
   -- The definition's step, by what its rows say.
@@ -65,7 +59,7 @@ module _ (i : Identity) (batch : M.Batch) (was : D.Log ℕ) where
           records = a.records ∙ append_assoc v.records ((i, entry 1 e.log_entry) ∷ []) (records_of i l);
         })
 
-  -- The entries of a batch, where their indices have 64 bits, or the boundary of the log has.
+  -- The entries of a batch, where those that are reached have an index of 64 bits.
   module _ (d : RaftReplicaIdentity) (lent : List ℕ) where
     -- One entry, and what the rest of the batch does on the preview that it leaves.
     module _ (e : BatchEntry) (p : Preview) (cs : List ℕ) (v : M.Preview) (m : Means p.head p.entries cs v.log) (at : v.lsn ≡ p.lsn) where
@@ -83,32 +77,20 @@ module _ (i : Identity) (batch : M.Batch) (was : D.Log ℕ) where
           ap (λ (n : ℕ). D.with_entry (log_entry_of (record_of d e) lent) (n + 1) (view_of p.head p.entries cs)) (sym at)
           ∙ ap (λ (g : D.Log ℕ). D.with_entry (log_entry_of (record_of d e) lent) (v.lsn + 1) g) m.view
 
-      head_low : v.log.snapshot_index ≤ u64_max → p.head.snapshot_index ≤ u64_max
-      unfolding view_of
-      head_low low = rw (ap (λ (g : D.Log ℕ). g.snapshot_index) m.view) low
-
-      bounded : (es : List BatchEntry) → Bounded (e ∷ es) v.log → Clear (replayed_rows p cs sits (record_of d e) lent) → e.index ≤ u64_max
-      bounded es (inl small) c = small 0
-      bounded es (inr low) c = index_low p cs sits (record_of d e) lent (head_low low) c
-
-      rest_bounded : (es : List BatchEntry) → Bounded (e ∷ es) v.log → Bounded es (M.preview_entry i (log_entry_of (record_of d e) lent) v).log
-      unfolding D.with_entry
-      rest_bounded es (inl small) = inl (λ k. small (suc k))
-      rest_bounded es (inr low) = inr low
-
-      turn : (es : List BatchEntry) (l : List M.BatchEntry) → Bounded (e ∷ es) v.log
-          → (next : (p : Preview) (cs : List ℕ) (v : M.Preview) → Means p.head p.entries cs v.log → v.lsn ≡ p.lsn → Bounded es v.log → Extends (extend_over d es lent p cs) i batch was l v (M.extended i batch was l v))
+      turn : (es : List BatchEntry) (l : List M.BatchEntry) → Reached d (e ∷ es) lent p cs
+          → (next : (p : Preview) (cs : List ℕ) (v : M.Preview) → Means p.head p.entries cs v.log → v.lsn ≡ p.lsn → Reached d es lent p cs → Extends (extend_over d es lent p cs) i batch was l v (M.extended i batch was l v))
           → (o : Option ℕ) → x.refused ≡ o
           → Extends (onward o x (extend_over d es lent x.preview x.bytes)) i batch was (entry_of lent e ∷ l) v (M.extended i batch was (entry_of lent e ∷ l) v)
+      unfolding Reached
       turn es l k next (Some c) w = inl (record { number = c; refused = w; says = extended_refused (entry_of lent e) l v c (rows ∙ w) })
       turn es l k next None w =
-          let y : Next p cs (log_entry_of (record_of d e) lent) x = entry_next p cs sits (record_of d e) lent (bounded es k) w in
+          let y : Next p cs (log_entry_of (record_of d e) lent) x = entry_next p cs sits (record_of d e) lent k.0 w in
           longer (entry_of lent e) l v (extend_over d es lent x.preview x.bytes) (rows ∙ w)
           (next x.preview x.bytes (M.preview_entry i (log_entry_of (record_of d e) lent) v)
           (subst (λ (g : D.Log ℕ). Means x.preview.head x.preview.entries x.bytes g) same_log_lem y.means)
-          (ap (λ (n : ℕ). n + 1) at ∙ sym y.lsn) (rest_bounded es k))
+          (ap (λ (n : ℕ). n + 1) at ∙ sym y.lsn) (k.1 w))
 
-    pub extends : (es : List BatchEntry) (p : Preview) (cs : List ℕ) (v : M.Preview) → Means p.head p.entries cs v.log → v.lsn ≡ p.lsn → Bounded es v.log
+    pub extends : (es : List BatchEntry) (p : Preview) (cs : List ℕ) (v : M.Preview) → Means p.head p.entries cs v.log → v.lsn ≡ p.lsn → Reached d es lent p cs
         → Extends (extend_over d es lent p cs) i batch was (entries_of es lent) v (M.extended i batch was (entries_of es lent) v)
     unfolding extend_over entries_of
     extends [] p cs v m at k = inr (record { next = v; refused = refl; says = extended_none v; means = m; lsn = at; records = sym (append-nil v.records) })

@@ -1,7 +1,7 @@
 -- The loop over the entries of a batch: what is asked of the whole is what is asked of the rest.
 -- Assumes nothing.
 use Rattle.std.specs.Prelude.{Option, None, Some, Result, Ok, Err}
-use mathlib.Core.Path.{◌≡◌, refl, sym, ap, ◌∙◌}
+use mathlib.Core.Path.{◌≡◌, refl, sym, ap, subst, ◌∙◌}
 use mathlib.Core.Bool.{Bool, true, false, ◌&&◌}
 use mathlib.Core.List.{List}
 use Prim.Native.Nat.{ℕ, ◌+◌, ◌-◌, ◌<◌, ◌≤◌}
@@ -12,6 +12,7 @@ use lib.ListN.{length, get_or, drop}
 use lib.Seq.{drop-cons}
 use Rattle.std.proofs.lemmas.List.{drop_all}
 use Rattle.definition.specs.Table.{◌=?◌, ◌≤?◌, first_of, u64_max}
+use Rattle.definition.proofs.Laws.{none_some}
 use Rattle.ids.specs.declared.RaftReplicaIdentity.{RaftReplicaIdentity}
 use Rattle.ids.specs.declared.Refusal.{Refusal}
 use Rattle.ids.specs.Refusal.{checked_of}
@@ -25,7 +26,7 @@ use Rattle.batches.specs.declared.BatchEntry.{BatchEntry}
 use Rattle.preview.specs.declared.Preview.{Preview}
 use Rattle.batches.specs.Checks.{entry_form_rows}
 use Rattle.batches.specs.Meaning.{blank, record_of}
-use Rattle.preview.specs.Preview.{holds_at, within, spot_in, spot_of, Ran, ran_with, ran, taken_at, formed_by, entry_ran, onward, extend_over, Sits, Takes}
+use Rattle.preview.specs.Preview.{holds_at, within, spot_in, spot_of, Ran, ran_with, ran, taken_at, formed_by, entry_ran, onward, extend_over, Reached, Extended, Sits, Takes}
 use Rattle.preview.specs.Extends.{Next}
 use Rattle.preview.proofs.Supplied.{entry_next}
 
@@ -86,33 +87,58 @@ module _ (d : RaftReplicaIdentity) (es : List BatchEntry) (lent : List ℕ) wher
   unfolding extend_over
   extend_none i p cs h = rw (drop_all i es h)
 
+  reached_step : (i : ℕ) (p : Preview) (cs : List ℕ) → i < length es → (own i).index ≤ u64_max
+      → ((one i p cs).refused ≡ None → Reached d (drop (i + 1) es) lent (one i p cs).preview (one i p cs).bytes)
+      → Reached d (drop i es) lent p cs
+  unfolding Reached
+  reached_step i p cs h small more = rw (drop-cons es i blank h) (small, rw (add-one i) at more)
+
+  reached_none : (i : ℕ) (p : Preview) (cs : List ℕ) → length es ≤ i → Reached d (drop i es) lent p cs
+  unfolding Reached
+  reached_none i p cs h = rw (drop_all i es h) tt
+
   -- Where the loop's test is reached: i entries were taken.
   pub record Running (p₀ : Preview) (cs₀ : List ℕ) (p : Preview) (cs : List ℕ) (o : Result (Unit {0}) Refusal) (i : ℕ) : Type 0 where
     pub ready : o ≡ (Ok tt)
     pub sits : Sits p cs
     pub whole : extend_over d es lent p₀ cs₀ ≡ left i p cs
+    pub reached : Reached d (drop i es) lent p cs → Reached d es lent p₀ cs₀
     pub long : length cs ≡ length cs₀
 
   module _ (p₀ : Preview) (cs₀ : List ℕ) (p : Preview) (cs : List ℕ) (o : Result (Unit {0}) Refusal) (i : ℕ) (k : Running p₀ cs₀ p cs o i) where
     -- all were taken
-    pub run_end : length es ≤ i → ran_with o p cs ≡ extend_over d es lent p₀ cs₀
-    run_end l = ap (λ (a : Result (Unit {0}) Refusal). ran_with a p cs) k.ready ∙ sym (k.whole ∙ extend_none i p cs l)
+    pub run_end : length es ≤ i → Extended d es lent p₀ cs₀ (ran_with o p cs)
+    run_end l =
+        record {
+          model = ap (λ (a : Result (Unit {0}) Refusal). ran_with a p cs) k.ready ∙ sym (k.whole ∙ extend_none i p cs l);
+          reached = k.reached (reached_none i p cs l);
+        }
 
-    module _ (l : i < length es) (r : RaftLogEntryRecord) (er : r ≡ own i) (a : Result (Unit {0}) Refusal) (ea : checked_of a ≡ first_of (entry_form_rows p.lsn (log_entry_of r lent))) where
+    module _ (l : i < length es) (r : RaftLogEntryRecord) (er : r ≡ own i) (small : r.index ≤ u64_max) (a : Result (Unit {0}) Refusal) (ea : checked_of a ≡ first_of (entry_form_rows p.lsn (log_entry_of r lent))) where
       step : extend_over d es lent p₀ cs₀ ≡ onward (one i p cs).refused (one i p cs) (rest i (one i p cs))
       step = k.whole ∙ extend_step i p cs l
+
+      step_reached : ((one i p cs).refused ≡ None → Reached d (drop (i + 1) es) lent (one i p cs).preview (one i p cs).bytes) → Reached d es lent p₀ cs₀
+      step_reached more =
+          let e : r.index ≡ (own i).index = ap (λ (z : RaftLogEntryRecord). z.index) er in
+          k.reached (reached_step i p cs l (omega arith) more)
+
+      -- refused, and the whole with it
+      ends : (y : Ran) (n : ℕ) → one i p cs ≡ y → y.refused ≡ Some n → Extended d es lent p₀ cs₀ y
+      ends y n e w =
+          record {
+            model = sym (step ∙ turn_ends (one i p cs) y (rest i) n e w);
+            reached = step_reached (λ q. absurd (none_some (sym q ∙ ap (λ (x : Ran). x.refused) e ∙ w)));
+          }
 
       -- refused for its form
       formed_out : (c : ℕ) → first_of (entry_form_rows p.lsn (log_entry_of r lent)) ≡ Some c → entry_ran p r cs lent ≡ ran (Some c) p cs
       unfolding entry_ran
       formed_out c w = ap (λ (z : Option ℕ). formed_by z p cs (taken_at p (spot_of p.head r.index) r cs lent)) w
 
-      pub run_formed : (why : Refusal) → a ≡ Err why → ran_with (Err why) p cs ≡ extend_over d es lent p₀ cs₀
+      pub run_formed : (why : Refusal) → a ≡ Err why → Extended d es lent p₀ cs₀ (ran_with (Err why) p cs)
       run_formed why w =
-          sym
-          (step
-          ∙ turn_ends (one i p cs) (ran (checked_of (Err why)) p cs) (rest i) _
-          (ap (λ (z : RaftLogEntryRecord). entry_ran p z cs lent) (sym er) ∙ formed_out _ (sym ea ∙ ap checked_of w)) refl)
+          ends (ran (checked_of (Err why)) p cs) _ (ap (λ (z : RaftLogEntryRecord). entry_ran p z cs lent) (sym er) ∙ formed_out _ (sym ea ∙ ap checked_of w)) refl
 
       -- taken at the place of its index
       module _ (ok : a ≡ (Ok tt)) (q : ℕ) (place : q ≡ spot_of p.head r.index) where
@@ -132,19 +158,19 @@ module _ (d : RaftReplicaIdentity) (es : List BatchEntry) (lent : List ℕ) wher
           one_is : one i p cs ≡ ran_with z t cs'
           one_is = ap (λ (z : RaftLogEntryRecord). entry_ran p z cs lent) (sym er) ∙ formed_in ∙ sym et
 
-          pub run_refused : (why : Refusal) → z ≡ Err why → ran_with (Err why) t cs' ≡ extend_over d es lent p₀ cs₀
+          pub run_refused : (why : Refusal) → z ≡ Err why → Extended d es lent p₀ cs₀ (ran_with (Err why) t cs')
           run_refused why w =
-              ap (λ (a : Result (Unit {0}) Refusal). ran_with a t cs') (sym w)
-              ∙ sym (step ∙ turn_ends (one i p cs) (ran_with z t cs') (rest i) _ one_is (ap checked_of w))
+              subst (λ (a : Result (Unit {0}) Refusal). Extended d es lent p₀ cs₀ (ran_with a t cs')) w (ends (ran_with z t cs') _ one_is (ap checked_of w))
 
-          pub run_next : r.index ≤ u64_max → z ≡ (Ok tt) → Running p₀ cs₀ t cs' o (i + 1)
-          run_next small w =
+          pub run_next : z ≡ (Ok tt) → Running p₀ cs₀ t cs' o (i + 1)
+          run_next w =
               let y : entry_ran p r cs lent ≡ ran_with z t cs' = formed_in ∙ sym et in
-              let m : Next p cs (log_entry_of r lent) (entry_ran p r cs lent) = entry_next p cs k.sits r lent (λ c. small) (ap (λ (z : Ran). z.refused) y ∙ ap checked_of w) in
+              let m : Next p cs (log_entry_of r lent) (entry_ran p r cs lent) = entry_next p cs k.sits r lent small (ap (λ (z : Ran). z.refused) y ∙ ap checked_of w) in
               let m' : Next p cs (log_entry_of r lent) (ran_with z t cs') = rw y at m in
               record {
                 ready = k.ready;
                 sits = record { fits = m'.means.fits; places = m'.means.places; bytes = m'.means.bytes };
                 whole = step ∙ turn_goes (one i p cs) (ran_with z t cs') (rest i) one_is (ap checked_of w);
+                reached = λ g. step_reached (λ q. subst (λ (x : Ran). Reached d (drop (i + 1) es) lent x.preview x.bytes) (sym one_is) g);
                 long = omega (arith, m'.means.bytes, k.sits.bytes, k.long);
               }

@@ -4,16 +4,16 @@
 use mathlib.Core.Path.{◌≡◌, refl, sym, ap, ◌∙◌}
 use mathlib.Core.Bool.{Bool, true, false, true≢false}
 use mathlib.Core.List.{List, ◌∷◌, ◌++◌}
-use Prim.Native.Nat.{ℕ, ◌+◌, ◌-◌, ◌<◌, ◌≤◌}
+use Prim.Native.Nat.{ℕ, ◌+◌, ◌-◌, ◌≤◌}
 use native.Mathlib.Omega.{arith}
-use borrow.Author.Tests.{eqb-true, eqb-false, leb-false, lt-ltb, not-false}
+use borrow.Author.Tests.{lt-ltb}
 use lib.ListN.{get_or, set}
 use Rattle.std.specs.Prelude.{if◌then◌else◌, Option, None, Some, unwrap_or}
 use Rattle.definition.specs.Table.{◌=?◌, ◌≤?◌, Row, ◌when◌, first_of, u64_max}
 use Rattle.definition.specs.Records.{Identity, unfit}
 use Rattle.definition.specs.Log as D
 use Rattle.definition.specs.Batch as M
-use Rattle.definition.proofs.Laws.{Clear, clear, or_else, first_join, none_some}
+use Rattle.definition.proofs.Laws.{clear, or_else, first_join, none_some}
 use Rattle.ids.specs.declared.Lsn.{Lsn}
 use Rattle.codec.specs.declared.RaftLogEntryRecord.{RaftLogEntryRecord}
 use Rattle.codec.specs.Records.{payload_of, log_entry_of}
@@ -22,9 +22,9 @@ use Rattle.view.specs.declared.Header.{Header}
 use Rattle.view.specs.declared.RecoveredRaftLogEntry.{RecoveredRaftLogEntry}
 use Rattle.view.specs.Decisions.{answered, Tells, held_from, new_rows, replay_rows_of, accepted_as, replayed}
 use Rattle.view.specs.Meaning.{no_entry, base_of, view_of, Means}
-use Rattle.view.specs.Readers.{last_of, last_entry_of, place_of, at_place}
+use Rattle.view.specs.Readers.{place_of, at_place}
 use Rattle.view.proofs.Accepted.{refusing, past_first, when_appended, when_replaced, when_renewed}
-use Rattle.view.proofs.Readers.{Held, held_at_lem, place_next}
+use Rattle.view.proofs.Readers.{Appends, appends}
 use Rattle.view.proofs.Told.{predecessor_is, tells_none, tells_held}
 use Rattle.replay.specs.Plan.{look_of, existing_in, prior_in, Plan, entry_plan}
 use Rattle.replay.proofs.Settled.{look_held, passed, same_answer_lem, is_appended, is_replayed, accepted_replayed}
@@ -53,13 +53,6 @@ written_refuses (Some n) p q d = refl
 formed_refuses : (o : Option ℕ) (p : Preview) (cs : List ℕ) (x : Ran) → (formed_by o p cs x).refused ≡ or_else o x.refused
 formed_refuses None p cs x = refl
 formed_refuses (Some n) p cs x = refl
-
-last_low : (h : Header) → h.snapshot_index ≤ u64_max → last_of h ≤ u64_max
-last_low h low = go (h.len =? 0)
-  where
-    go : (b : Bool) → (if b then h.snapshot_index else last_entry_of h) ≤ u64_max
-    go true = low
-    go false = omega arith
 
 module _ (p : Preview) (cs : List ℕ) (s : Sits p cs) (r : RaftLogEntryRecord) (lent : List ℕ) where
   abbrev h : Header
@@ -109,10 +102,6 @@ module _ (p : Preview) (cs : List ℕ) (s : Sits p cs) (r : RaftLogEntryRecord) 
   abbrev rest : List Row
   rest = replay_rows_of h old prior r.index r.term
 
-  -- what 25 leaves to be tested
-  abbrev pub replayed_rows : List Row
-  replayed_rows = rest
-
   abbrev accepted : D.Answer
   accepted = accepted_as h old r.index r.term
 
@@ -130,12 +119,8 @@ module _ (p : Preview) (cs : List ℕ) (s : Sits p cs) (r : RaftLogEntryRecord) 
           → (look_of h r.index ≡ h.len) × (spot_in q h.len ≡ h.len)
       go None w v =
           let o : first_of (new_rows h prior r.index r.term) ≡ None = passed (first_of (new_rows h prior r.index r.term)) D.appended D.appended refl v in
-          let c : Clear (new_rows h prior r.index r.term) = clear (new_rows h prior r.index r.term) o in
-          let next : r.index ≡ last_of h + 1 = eqb-true r.index (last_of h + 1) (not-false (r.index =? last_of h + 1) c.1.1.0) in
-          let room : h.len < 64 = leb-false 64 h.len c.1.1.1.1.0 in
-          let last : last_of h < u64_max = omega arith in
-          let at : r.index - base_of h ≡ h.len = place_next h r.index next last in
-          (rw (lt-ltb (r.index - base_of h) 64 (omega arith)) at, rw (lt-ltb h.len 64 room) refl)
+          let k : Appends h r.index = appends h prior r.index r.term small o in
+          (rw (lt-ltb (r.index - base_of h) 64 (omega (arith, k.room, k.place))) k.place, rw (lt-ltb h.len 64 k.room) refl)
       go (Some q) w v =
           absurd (on ((get_or es q no_entry).term =? r.term) (same_answer_lem (first_of (replay_rows_of h (existing_in (Some q) (get_or es q no_entry) cs r lent) prior r.index r.term)) (accepted_as h (existing_in (Some q) (get_or es q no_entry) cs r lent) r.index r.term) D.appended refl v))
         where
@@ -152,36 +137,23 @@ module _ (p : Preview) (cs : List ℕ) (s : Sits p cs) (r : RaftLogEntryRecord) 
       go (Some q) w v = w
       go None w v = absurd (true≢false (ap is_appended (same_answer_lem (first_of (replay_rows_of h None prior r.index r.term)) D.appended a z v) ∙ ne))
 
-  -- An entry that no row refuses has an index of 64 bits, if the boundary has.
-  pub index_low : h.snapshot_index ≤ u64_max → Clear rest → r.index ≤ u64_max
-  index_low low = go (place_of h r.index) refl
-    where
-      go : (q : Option ℕ) → place_of h r.index ≡ q → Clear (replay_rows_of h (existing_in q (get_or es (spot_in q h.len) no_entry) cs r lent) prior r.index r.term)
-          → r.index ≤ u64_max
-      go None w c =
-          let next : r.index ≡ last_of h + 1 = eqb-true r.index (last_of h + 1) (not-false (r.index =? last_of h + 1) c.1.1.0) in
-          let more : last_of h ≡ u64_max → ⊥ = eqb-false (last_of h) u64_max c.1.0 in
-          let most : last_of h ≤ u64_max = last_low h low in
-          omega arith
-      go (Some q) w c = let y : Held h r.index q = held_at_lem h r.index q w in omega (arith, y.index, y.below, s.fits.indices)
-
   abbrev after : D.Log ℕ
   after = D.with_entry (log_entry_of r lent) l.0 log
 
-  module _ (fit : unfit (payload_of r.payload lent) ≡ false) (bounded : Clear rest → r.index ≤ u64_max) where
-    wrote : r.index ≤ u64_max → (a : D.Answer) → refusing a ≡ false → is_replayed a ≡ true → replayed h old prior r.index r.term ≡ a
+  module _ (fit : unfit (payload_of r.payload lent) ≡ false) (small : r.index ≤ u64_max) where
+    wrote : (a : D.Answer) → refusing a ≡ false → is_replayed a ≡ true → replayed h old prior r.index r.term ≡ a
         → Means (entry_plan a h e r l cs lent).head (set es spot (entry_plan a h e r l cs lent).entry) (entry_plan a h e r l cs lent).bytes after
-    wrote small D.appended z y v =
+    wrote D.appended z y v =
         rw ((appended_place small v).0, (appended_place small v).1) (when_appended h es cs s.fits s.places s.bytes r lent l fit small old prior tells v)
-    wrote small D.idempotentReplay z y v =
+    wrote D.idempotentReplay z y v =
         when_renewed h es cs s.fits s.places s.bytes r lent l fit small old prior tells spot (place_held D.idempotentReplay refl refl v) v
-    wrote small (D.replaced_suffix m) z y v =
+    wrote (D.replaced_suffix m) z y v =
         let w : place_of h r.index ≡ Some spot = place_held (D.replaced_suffix m) refl refl v in
         rw (look_held h r.index spot s.fits.short w) (when_replaced h es cs s.fits s.places s.bytes r lent l fit small old prior tells spot w m v)
-    wrote small D.counted z y v = absurd (true≢false (sym y))
-    wrote small D.kept z y v = absurd (true≢false (sym y))
-    wrote small D.finished z y v = absurd (true≢false (sym y))
-    wrote small (D.refused n) z y v = absurd (true≢false z)
+    wrote D.counted z y v = absurd (true≢false (sym y))
+    wrote D.kept z y v = absurd (true≢false (sym y))
+    wrote D.finished z y v = absurd (true≢false (sym y))
+    wrote (D.refused n) z y v = absurd (true≢false z)
 
     abbrev NextOf : Ran → Type 0
     NextOf x = Next p cs (log_entry_of r lent) x
@@ -192,7 +164,7 @@ module _ (p : Preview) (cs : List ℕ) (s : Sits p cs) (r : RaftLogEntryRecord) 
     planned_next None w z =
         let a : (refusing accepted ≡ false) × (is_replayed accepted ≡ true) = accepted_replayed h old r.index r.term in
         let t : answered (first_of (first ∷ rest)) accepted ≡ accepted = ap (λ (o : Option ℕ). answered o accepted) w in
-        record { means = wrote (bounded (clear (first ∷ rest) w).1) accepted a.0 a.1 (past_first first rest accepted accepted a.0 t); lsn = refl }
+        record { means = wrote accepted a.0 a.1 (past_first first rest accepted accepted a.0 t); lsn = refl }
 
     taken_next : (o : Option ℕ) → refusal_in plan.answer ≡ o → o ≡ None → NextOf (written_by o p spot plan)
     taken_next (Some n) w z = absurd (none_some (sym z))
@@ -203,15 +175,15 @@ module _ (p : Preview) (cs : List ℕ) (s : Sits p cs) (r : RaftLogEntryRecord) 
   form_fit w = (clear (entry_form_rows p.lsn (log_entry_of r lent)) w).1.1.1.1.1.0
 
   -- An entry that is not refused: the log is the definition's next.
-  pub entry_next : (Clear rest → r.index ≤ u64_max) → (entry_ran p r cs lent).refused ≡ None → Next p cs (log_entry_of r lent) (entry_ran p r cs lent)
+  pub entry_next : r.index ≤ u64_max → (entry_ran p r cs lent).refused ≡ None → Next p cs (log_entry_of r lent) (entry_ran p r cs lent)
   unfolding entry_ran
-  entry_next bounded = go (first_of (entry_form_rows p.lsn (log_entry_of r lent))) refl
+  entry_next small = go (first_of (entry_form_rows p.lsn (log_entry_of r lent))) refl
     where
       go : (o : Option ℕ) → first_of (entry_form_rows p.lsn (log_entry_of r lent)) ≡ o → (formed_by o p cs (taken_at p spot r cs lent)).refused ≡ None
           → Next p cs (log_entry_of r lent) (formed_by o p cs (taken_at p spot r cs lent))
       go (Some n) w z = absurd (none_some (sym z))
       go None w z =
-          taken_next (form_fit w) bounded (refusal_in plan.answer) refl (sym (written_refuses (refusal_in plan.answer) p spot plan) ∙ z)
+          taken_next (form_fit w) small (refusal_in plan.answer) refl (sym (written_refuses (refusal_in plan.answer) p spot plan) ∙ z)
 
   -- An entry is refused by the definition's rows.
   pub entry_refuses : (i : Identity) (batch : M.Batch) (was : D.Log ℕ) (v : M.Preview) → v.log ≡ view_of p.head p.entries cs → v.lsn ≡ p.lsn

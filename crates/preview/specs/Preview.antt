@@ -1,7 +1,7 @@
 -- The model of the entries of a batch on a preview: what one does, and what the rest of them do.
 -- Assumes nothing.
-use Rattle.std.specs.Prelude.{ℕ, ◌+◌, ◌-◌, ◌≡◌, List, [], ◌∷◌, Bool, ◌&&◌, length, get_or, set, if◌then◌else◌, Option, None, Some, Result}
-use Rattle.definition.specs.Table.{◌=?◌, ◌<?◌, ◌≤?◌, first_of}
+use Rattle.std.specs.Prelude.{ℕ, ◌+◌, ◌-◌, ◌≤◌, ◌≡◌, List, [], ◌∷◌, Bool, ◌&&◌, length, get_or, set, if◌then◌else◌, Option, None, Some, Result}
+use Rattle.definition.specs.Table.{◌=?◌, ◌<?◌, ◌≤?◌, first_of, u64_max}
 use Rattle.definition.specs.Log as D
 use Rattle.ids.specs.declared.Lsn.{Lsn}
 use Rattle.ids.specs.declared.RaftReplicaIdentity.{RaftReplicaIdentity}
@@ -97,6 +97,18 @@ extend_over d [] lent p cs = ran None p cs
 extend_over d (e ∷ es) lent p cs =
     onward (entry_ran p (record_of d e) cs lent).refused (entry_ran p (record_of d e) cs lent)
     (extend_over d es lent (entry_ran p (record_of d e) cs lent).preview (entry_ran p (record_of d e) cs lent).bytes)
+
+-- Every entry that is reached has an index of 64 bits, as the loop reads it.
+unfoldable pub Reached : RaftReplicaIdentity → List BatchEntry → List ℕ → Preview → List ℕ → Type 0
+Reached d [] lent p cs = Unit {0}
+Reached d (e ∷ es) lent p cs =
+    (e.index ≤ u64_max)
+    × ((entry_ran p (record_of d e) cs lent).refused ≡ None → Reached d es lent (entry_ran p (record_of d e) cs lent).preview (entry_ran p (record_of d e) cs lent).bytes)
+
+-- What the entries of a batch leave: the model's, and what was read of them.
+pub record Extended (d : RaftReplicaIdentity) (es : List BatchEntry) (lent : List ℕ) (p : Preview) (cs : List ℕ) (x : Ran) : Type 0 where
+  pub model : x ≡ extend_over d es lent p cs
+  pub reached : Reached d es lent p cs
 
 -- A preview and its block fit.
 pub record Sits (p : Preview) (cs : List ℕ) : Type 0 where

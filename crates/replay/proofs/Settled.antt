@@ -4,10 +4,10 @@ use mathlib.Core.Path.{◌≡◌, refl, sym, ap, ◌∙◌}
 use mathlib.Core.Bool.{Bool, true, false, true≢false}
 use mathlib.Core.Logic.{inl, inr}
 use mathlib.Core.List.{List, ◌∷◌}
-use Prim.Native.Nat.{ℕ, ◌+◌, ◌-◌, ◌<◌, ◌≤◌}
+use Prim.Native.Nat.{ℕ, ◌-◌, ◌≤◌}
 use native.Mathlib.Omega.{arith}
 use native.Mathlib.Nat.{sub-zero}
-use borrow.Author.Tests.{eqb-true, leb-true, leb-false, lt-ltb, not-false}
+use borrow.Author.Tests.{leb-true, lt-ltb}
 use lib.ListN.{length, get_or, set, length-set}
 use Rattle.std.specs.Prelude.{if◌then◌else◌, Option, None, Some, option_map, unwrap_or}
 use Rattle.definition.specs.Table.{◌=?◌, ◌≤?◌, Row, ◌when◌, first_of, u64_max}
@@ -15,7 +15,7 @@ use Rattle.definition.specs.Records.{Identity, Kind, hard_state, pointer, unfit,
 use Rattle.definition.specs.Log as D
 use Rattle.definition.specs.Recovery.{settled, judged}
 use Rattle.definition.specs.Two.{fits_kind}
-use Rattle.definition.proofs.Laws.{Clear, clear}
+use Rattle.definition.proofs.Laws.{clear}
 use Rattle.ids.specs.declared.Lsn.{Lsn}
 use Rattle.ids.specs.Identity.{identity_of}
 use Rattle.store.proofs.Part.{splice_self, set_self}
@@ -32,9 +32,9 @@ use Rattle.view.specs.Decisions.{answered, Tells, held_from, new_rows, replay_ro
 use Rattle.view.specs.Kept.{kept_entry}
 use Rattle.view.specs.Meaning.{no_entry, base_of, id_of, view_of, Means}
 use Rattle.view.specs.Model.{with_hard_state, with_pointer, covered_by, placed_entries, dropped_entries, dropped_bytes, renewed_entry}
-use Rattle.view.specs.Readers.{last_of, place_of, at_place}
+use Rattle.view.specs.Readers.{place_of, at_place}
 use Rattle.view.proofs.Accepted.{refusing, past_first, when_appended, when_replaced, when_renewed, hard_state_means, pointer_means}
-use Rattle.view.proofs.Readers.{Held, held_at_lem, place_next}
+use Rattle.view.proofs.Readers.{Held, held_at_lem, Appends, appends}
 use Rattle.view.proofs.Rows.{entry_rows, entry_answer_lem, hard_state_rows_lem, pointer_rows_lem}
 use Rattle.view.proofs.Told.{term_at_is, predecessor_is, tells_none, tells_held}
 use Rattle.replay.specs.Plan.{index_of, look_of, existing_in, prior_in, held_term_in, Plan, entry_plan, unless_row, hard_state_plan, pointer_plan, plan_of, entries_after}
@@ -180,11 +180,8 @@ module _ (h : Header) (es : List RecoveredRaftLogEntry) (cs : List ℕ) (r : Raf
   appended_place p =
       let o : first_of (new_rows h prior r.index r.term) ≡ None =
       passed (first_of (new_rows h prior r.index r.term)) D.appended D.appended refl (rw (new_only p) at (replay_is D.appended refl p)) in
-      let c : Clear (new_rows h prior r.index r.term) = clear (new_rows h prior r.index r.term) o in
-      let next : r.index ≡ last_of h + 1 = eqb-true r.index (last_of h + 1) (not-false (r.index =? last_of h + 1) c.1.1.0) in
-      let room : h.len < 64 = leb-false 64 h.len c.1.1.1.1.0 in
-      let at : r.index - base_of h ≡ h.len = place_next h r.index next (omega arith) in
-      rw (lt-ltb (r.index - base_of h) 64 (omega arith)) at
+      let k : Appends h r.index = appends h prior r.index r.term small o in
+      rw (lt-ltb (r.index - base_of h) 64 (omega (arith, k.room, k.place))) k.place
 
   -- At an index that is not held nothing but an append is answered.
   place_held : (a : D.Answer) → refusing a ≡ false → is_appended a ≡ false → told ≡ a → place_of h r.index ≡ Some place

@@ -3,15 +3,15 @@
 use mathlib.Core.Path.{◌≡◌, refl, ap, ◌∙◌}
 use mathlib.Core.Bool.{Bool, true, false, ◌&&◌, not, true≢false}
 use mathlib.Core.List.{List, ◌∷◌, ◌++◌}
-use Prim.Native.Nat.{ℕ, ◌+◌, ◌-◌, ◌*◌, ◌<◌, ◌≤◌}
+use Prim.Native.Nat.{ℕ, ◌+◌, ◌-◌, ◌*◌, ◌≤◌}
 use native.Mathlib.Omega.{arith}
-use borrow.Author.Tests.{eqb-true, eq-eqb, leb-false, not-false}
+use borrow.Author.Tests.{eqb-true, eq-eqb, not-false}
 use lib.ListN.{length, get_or, length-append, length-set}
 use Rattle.std.specs.Prelude.{if◌then◌else◌, Option, None, Some}
 use Rattle.definition.specs.Table.{◌=?◌, Row, ◌when◌, first_of, u64_max}
 use Rattle.definition.specs.Records.{LogEntry, same_payload, unfit}
 use Rattle.definition.specs.Log as D
-use Rattle.definition.proofs.Laws.{Clear, clear}
+use Rattle.definition.proofs.Laws.{clear}
 use Rattle.ids.specs.declared.Lsn.{Lsn}
 use Rattle.store.specs.Splice.{part}
 use Rattle.store.specs.Zeros.{zeros}
@@ -26,13 +26,13 @@ use Rattle.view.specs.declared.RecoveredRaftLogEntry.{RecoveredRaftLogEntry}
 use Rattle.view.specs.declared.Header.{Header}
 use Rattle.view.specs.Meaning.{no_entry, cell_at, entry_at, view_of, base_of, Fits, Cell, record_at, Means}
 use Rattle.view.specs.Model.{with_entry, with_hard_state, covered_by, with_pointer, maximum_term, finished, placed_entries, renewed_entry, placed_bytes, appended_bytes, dropped_entries, dropped_bytes}
-use Rattle.view.specs.Readers.{last_of, place_of}
+use Rattle.view.specs.Readers.{place_of}
 use Rattle.view.specs.Kept.{kept_entry, cell_for}
 use Rattle.view.specs.Decisions.{answered, Tells, new_rows, held_rows, held_from, accepted_held, replayed}
 use Rattle.view.proofs.Block.{placed_view, placed_fits, appended_bytes_lem, renewed_view, renewed_fits}
 use Rattle.view.proofs.Dropped.{pointer_view, pointer_fits}
 use Rattle.view.proofs.Head.{hard_state_view, hard_state_fits, finished_view, finished_fits}
-use Rattle.view.proofs.Readers.{place_is, at_is, Held, held_at_lem, place_next}
+use Rattle.view.proofs.Readers.{place_is, at_is, Held, held_at_lem, Appends, appends}
 use Rattle.view.proofs.Kept.{kept_record, kept_cell}
 use Rattle.view.proofs.Same.{payload_eq}
 
@@ -122,12 +122,9 @@ module _ (h : Header) (es : List RecoveredRaftLogEntry) (cs : List ℕ) (f : Fit
   appended_means : (prior : ℕ) → D.at log r.index ≡ None → first_of (new_rows h prior r.index r.term) ≡ None
       → Means (with_entry h (h.len + 1) l) (placed_entries es h.len e) (appended_bytes cs h.len c) after
   appended_means prior p n =
-      let k : Clear (new_rows h prior r.index r.term) = clear (new_rows h prior r.index r.term) n in
-      let next : r.index ≡ last_of h + 1 = eqb-true r.index (last_of h + 1) (not-false (r.index =? last_of h + 1) k.1.1.0) in
-      let room : h.len < 64 = leb-false 64 h.len k.1.1.1.1.0 in
-      let pl : r.index - base_of h ≡ h.len = place_next h r.index next (omega arith) in
+      let k : Appends h r.index = appends h prior r.index r.term small n in
       rw (appended_bytes_lem cs h.len c) at
-      (placed_means h.len 0 (omega arith) (omega arith) (omega arith) (omega arith) (not_held p) (place_is h es cs r.index ∙ pl))
+      (placed_means h.len 0 (omega arith) (omega (arith, k.room)) (omega arith) (omega (arith, k.next, k.place)) (not_held p) (place_is h es cs r.index ∙ k.place))
 
   -- held at place q
   module _ (q : ℕ) (at-q : place_of h r.index ≡ Some q) where

@@ -5,14 +5,16 @@ use mathlib.Core.Bool.{Bool, true, false}
 use mathlib.Core.List.{List}
 use Prim.Native.Nat.{ℕ, zero, suc, ◌+◌, ◌-◌, ◌<◌, ◌≤◌, pred}
 use native.Mathlib.Omega.{arith}
-use borrow.Author.Tests.{eqb-true, eqb-false, ltb-true, leb-true, ne_eqb}
+use borrow.Author.Tests.{eqb-true, eqb-false, ltb-true, leb-true, leb-false, ne_eqb, not-false}
 use lib.ListN.{get_or}
 use Rattle.std.specs.Prelude.{if◌then◌else◌, Option, None, Some, option_map}
-use Rattle.definition.specs.Table.{◌=?◌, ◌<?◌, ◌≤?◌, or_zero, u64_max}
+use Rattle.definition.specs.Table.{◌=?◌, ◌<?◌, ◌≤?◌, first_of, or_zero, u64_max}
 use Rattle.definition.specs.Log as D
+use Rattle.definition.proofs.Laws.{Clear, clear}
 use Rattle.ids.specs.declared.Lsn.{Lsn}
 use Rattle.view.specs.declared.RecoveredRaftLogEntry.{RecoveredRaftLogEntry}
 use Rattle.view.specs.declared.Header.{Header}
+use Rattle.view.specs.Decisions.{new_rows}
 use Rattle.view.specs.Tab.{tab}
 use Rattle.view.specs.Meaning.{lsn_of, no_entry, entry_at, view_of, base_of}
 use Rattle.view.specs.Readers.{first_index_of, boundary_of, last_entry_of, last_index_of, last_of, place_of, at_place, first_retained_of}
@@ -114,16 +116,25 @@ held_at_lem h x q = go (base_of h ≤? x) (x - base_of h <? h.len) refl refl
     go true false p r e = absurd (let z : ◌≡◌ {A = ℕ} 0 1 = cc in omega arith)
     go false b p r e = absurd (let z : ◌≡◌ {A = ℕ} 0 1 = cc in omega arith)
 
--- The index after the last is the place after the last entry: what 29 and 30 leave of an index that is not held.
-pub place_next : (h : Header) (x : ℕ) → x ≡ last_of h + 1 → last_of h < u64_max → x - base_of h ≡ h.len
-place_next h x e l = go (h.len =? 0) refl
+-- What the rows of an index that is not held leave: the index is the next (30), there is room (32), and its place is the one after the
+-- last entry.
+pub record Appends (h : Header) (x : ℕ) : Type 0 where
+  pub next : x ≡ last_of h + 1
+  pub room : h.len < 64
+  pub place : x - base_of h ≡ h.len
+
+pub appends : (h : Header) (prior x term : ℕ) → x ≤ u64_max → first_of (new_rows h prior x term) ≡ None → Appends h x
+appends h prior x term small n =
+    let k : Clear (new_rows h prior x term) = clear (new_rows h prior x term) n in
+    let next : x ≡ last_of h + 1 = eqb-true x (last_of h + 1) (not-false (x =? last_of h + 1) k.1.0) in
+    record { next = next; room = leb-false 64 h.len k.1.1.1.0; place = place next (h.len =? 0) refl }
   where
-    go : (b : Bool) → (h.len =? 0) ≡ b → x - base_of h ≡ h.len
-    go true t =
+    place : x ≡ last_of h + 1 → (b : Bool) → (h.len =? 0) ≡ b → x - base_of h ≡ h.len
+    place next true t =
         let last : last_of h ≡ h.snapshot_index = rw t in
         let z : h.len ≡ 0 = eqb-true h.len 0 t in
         omega arith
-    go false t =
+    place next false t =
         let last : last_of h ≡ last_entry_of h = rw t in
         let z : h.len ≡ 0 → ⊥ = eqb-false h.len 0 t in
         omega arith

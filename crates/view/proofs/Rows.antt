@@ -66,7 +66,7 @@ module _ (h : Header) (es : List RecoveredRaftLogEntry) (cs : List ℕ) (f : Fit
         go : (b : Bool) → (term =? e.term) ≡ b →
             first_of (
             (26 when b && not (same_payload o.payload e.payload)) ∷
-            (27 when not b && e.index ≤? h.committed_index) ∷ (28 when false) ∷ (29 when false) ∷ (30 when false) ∷ (31 when not b && e.term <? prior) ∷ (32 when false) ∷ []
+            (27 when not b && e.index ≤? h.committed_index) ∷ (28 when false) ∷ (30 when false) ∷ (31 when not b && e.term <? prior) ∷ (32 when false) ∷ []
             )
             ≡ first_of ((26 when b && not same) ∷ (27 when not b && e.index ≤? h.committed_index) ∷ (31 when not b && e.term <? prior) ∷ [])
         go true z = rw (r (eqb-true term e.term z)) (first_under 26 (not same) _ _ refl)

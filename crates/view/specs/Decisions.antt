@@ -1,7 +1,7 @@
 -- The model of the decisions, on a header and small values, row by row in document 01's order; and what their answers mean.
 -- Assumes nothing.
 use Rattle.std.specs.Prelude.{Bool, ◌&&◌, not, List, [], ◌∷◌, ◌++◌, ℕ, ◌+◌, ◌-◌, ◌≡◌, if◌then◌else◌, Option, None, Some, Result, Ok, Err, option_map}
-use Rattle.definition.specs.Table.{◌=?◌, ◌≠?◌, ◌<?◌, ◌≤?◌, Row, ◌when◌, first_of, if_some, u64_max}
+use Rattle.definition.specs.Table.{◌=?◌, ◌≠?◌, ◌<?◌, ◌≤?◌, Row, ◌when◌, first_of, if_some}
 use Rattle.definition.specs.Records.{Identity, LogEntry, same_payload}
 use Rattle.definition.specs.Log as D
 use Rattle.ids.specs.declared.Refusal.{Refusal}
@@ -36,11 +36,10 @@ Tells (Some x) None e = ⊥
 Tells (Some x) (Some o) e = (o.term ≡ x.term) × (x.term ≡ e.term → same_payload o.payload e.payload ≡ x.same_payload)
 
 -- An entry of an index and a term, where `old` is held at the index and `prior` is the predecessor's term.
--- At an index that is not held (28 to 32).
+-- At an index that is not held (28, 30 to 32).
 abbrev pub new_rows : Header → ℕ → ℕ → ℕ → List Row
 new_rows h prior index term =
     (28 when h.len =? 0 && h.snapshot_index =? 0 && index ≠? 1)
-    ∷ (29 when last_of h =? u64_max)
     ∷ (30 when index ≠? last_of h + 1)
     ∷ (31 when term <? prior)
     ∷ (32 when 64 ≤? h.len)

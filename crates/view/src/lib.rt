@@ -230,18 +230,14 @@ fn missing_prefix(h: Header, index: u64) -> bool
     h.is_empty() && h.snapshot_index == 0 && index != 1
 }
 
-// An entry at an index that is not held (28 to 32).
+// An entry at an index that is not held (28, 30 to 32).
 fn replay_new(h: Header, prior: u64, index: u64, term: u64) -> Result<RaftLogReplayOutcome, Refusal>
     ensures { outcome_of result ≡ answered (first_of (new_rows h prior index term)) appended }
 {
     if missing_prefix(h, index) {
         return Err(Refusal::MissingLogPrefix);
     }
-    let last = h.last();
-    if last == u64::MAX {
-        return Err(Refusal::LogIndexExhausted);
-    }
-    if index != last + 1 {
+    if h.last().checked_add(1) != Some(index) {
         return Err(Refusal::NonContiguousAppend);
     }
     if term < prior {

@@ -18,7 +18,7 @@ take_entry-requires c =
     ])
     in
     run_takes c.args.identity c.args.entries.now c.args.lent.now c.args.preview.now c.args.block.now c.batch.preview c.batch.block c.batch.answer-1 c.batch.entry-index c.batch.invariant
-    c.batch-test.true c.record-r.result c.record-r.ensures c.check_entry.result c.check_entry.ensures c.in_default.is c.place_within.result spot
+    c.batch-test.true c.record-r.result c.record-r.ensures (omega (arith, c.record-r.type_inv)) c.check_entry.result c.check_entry.ensures c.in_default.is c.place_within.result spot
 
 pub batch-preserved : goal.batch-preserved
 batch-preserved c =
@@ -32,15 +32,15 @@ batch-preserved c =
     ])
     in
     run_next c.args.identity c.args.entries.now c.args.lent.now c.args.preview.now c.args.block.now c.batch.preview c.batch.block c.batch.answer-1 c.batch.entry-index c.batch.invariant
-    c.batch-test.true c.record-r.result c.record-r.ensures c.check_entry.result c.check_entry.ensures c.in_default.is c.place_within.result spot
-    c.take_entry.result _ _ c.take_entry.ensures (omega (arith, c.record-r.type_inv)) c.in_default-take_entry.is
+    c.batch-test.true c.record-r.result c.record-r.ensures (omega (arith, c.record-r.type_inv)) c.check_entry.result c.check_entry.ensures c.in_default.is c.place_within.result spot
+    c.take_entry.result _ _ c.take_entry.ensures c.in_default-take_entry.is
 
 pub returns-after-batch : goal.returns-after-batch
 returns-after-batch c = run_end c.args.identity c.args.entries.now c.args.lent.now c.args.preview.now c.args.block.now c.batch.preview c.batch.block c.batch.answer-1 c.batch.entry-index c.batch.invariant c.batch-test.false
 
 pub returns-in-Err : goal.returns-in-Err
 returns-in-Err c = run_formed c.args.identity c.args.entries.now c.args.lent.now c.args.preview.now c.args.block.now c.batch.preview c.batch.block c.batch.answer-1 c.batch.entry-index c.batch.invariant
-    c.batch-test.true c.record-r.result c.record-r.ensures c.check_entry.result c.check_entry.ensures _ c.in-Err.is
+    c.batch-test.true c.record-r.result c.record-r.ensures (omega (arith, c.record-r.type_inv)) c.check_entry.result c.check_entry.ensures _ c.in-Err.is
 
 pub returns-in-Err-take_entry : goal.returns-in-Err-take_entry
 returns-in-Err-take_entry c =
@@ -54,5 +54,5 @@ returns-in-Err-take_entry c =
     ])
     in
     run_refused c.args.identity c.args.entries.now c.args.lent.now c.args.preview.now c.args.block.now c.batch.preview c.batch.block c.batch.answer-1 c.batch.entry-index c.batch.invariant
-    c.batch-test.true c.record-r.result c.record-r.ensures c.check_entry.result c.check_entry.ensures c.in_default.is c.place_within.result spot
+    c.batch-test.true c.record-r.result c.record-r.ensures (omega (arith, c.record-r.type_inv)) c.check_entry.result c.check_entry.ensures c.in_default.is c.place_within.result spot
     c.take_entry.result _ _ c.take_entry.ensures _ c.in-Err-take_entry.is
