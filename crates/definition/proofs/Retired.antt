@@ -6,18 +6,18 @@ use mathlib.Core.Bool.{Bool, true, false, ◌&&◌, not, and-false, false≢true
 use mathlib.Core.List.{List, [], ◌∷◌, ◌++◌}
 use native.Mathlib.Omega.{arith}
 use borrow.Author.Tests.{leb-true, leb-false, eqb-true, lt-ltb, le-leb, not-false}
-use Rattle.std.specs.Prelude.{Option, None, Some, Result, Ok, Err, unwrap_or}
+use Rattle.std.specs.Prelude.{Option, None, Some, Result, Ok, Err}
 use Rattle.definition.specs.Table.{◌=?◌, ◌≤?◌, Row, ◌when◌, first_of, unless, if_some, every, or_zero, present, u64_max}
 use Rattle.definition.specs.Records.{Identity, same, LogEntry, HardState, Kind, entry, hard_state, pointer, zero_configuration_replica_id, zero_configuration_version, zero_log_index, zero_term, command_unfit}
-use Rattle.definition.specs.Log.{Log, PointerRecord, same_pointer_record, empty, is_held, last, kept_pointer, conflicting_payload, committed_prefix_overwrite, missing_log_prefix, non_contiguous_append, log_term_regression, log_full, entry_at_or_below_truncation, entry_at_or_below_snapshot, replay_rows, hard_state_successor_rows, snapshot_successor_rows, install_rows, rows, with_entry, with_pointer}
-use Rattle.definition.specs.Recovery.{held, lookup, State, sound_state, held_clauses, Recovery, sound_store, replica_of, ask}
-use Rattle.definition.specs.Batch.{Batch, BatchEntry, Preview, hard_state_before_log_term, preview_hard_state, preview_lsn_exhausted, preview_entry, preview_pointer, previewed, batch_rows, batch_pointer_rows, batch_entry_rows, batch_hard_state_rows, concluded, hardened, extended, pointed, prepare_on, prepare}
+use Rattle.definition.specs.Log.{Log, PointerRecord, same_pointer_record, is_held, last, kept_pointer, conflicting_payload, committed_prefix_overwrite, missing_log_prefix, non_contiguous_append, log_term_regression, log_full, entry_at_or_below_truncation, entry_at_or_below_snapshot, replay_rows, hard_state_successor_rows, snapshot_successor_rows, install_rows, rows, with_entry, with_pointer}
+use Rattle.definition.specs.Recovery.{sound_state, Recovery, sound_store, replica_of, ask}
+use Rattle.definition.specs.Batch.{Batch, BatchEntry, Preview, hard_state_before_log_term, preview_hard_state, preview_lsn_exhausted, preview_entry, preview_pointer, previewed, batch_rows, batch_pointer_rows, batch_entry_rows, batch_hard_state_rows, concluded, hardened, extended, pointed, prepare_on, prepare, fits_entry, fits_batch}
 use Rattle.definition.specs.Two.{fits_kind}
-use Rattle.definition.specs.Retired.{replay_rows_of_01, rows_of_01, batch_entry_rows_of_01, extended_of_01, pointed_of_01, prepare_on_of_01, prepare_of_01, fits_batch, Retires29}
-use Rattle.definition.proofs.Laws.{and_l, and_r, none_some, all_facts, Clear, clear}
-use Rattle.definition.proofs.Order.{same_eq, every_lookup}
-use Rattle.definition.proofs.SoundLog.{SoundLog, log_facts, empty_sound, truncated_is, entry_sound, pointer_sound}
-use Rattle.definition.proofs.Sound.{sound_held, state_facts}
+use Rattle.definition.specs.Retired.{replay_rows_of_01, rows_of_01, batch_entry_rows_of_01, extended_of_01, pointed_of_01, prepare_on_of_01, prepare_of_01, Retires29}
+use Rattle.definition.proofs.Laws.{and_l, and_r, none_some, Clear, clear}
+use Rattle.definition.proofs.Order.{same_eq}
+use Rattle.definition.proofs.SoundLog.{SoundLog, truncated_is, entry_sound, pointer_sound}
+use Rattle.definition.proofs.Sound.{replica_sound}
 use Rattle.definition.proofs.Healthy.{gapless}
 
 -- A row that cannot hold where it is reached may go.
@@ -68,17 +68,6 @@ module _ {T : Type 0} where
   rows_lack i (hard_state version h) log = refl
   rows_lack i (pointer p) log = refl
 
--- A replica of a sound state, held or not, is sound.
-replica_sound : (s : State) → sound_state s ≡ true → (i : Identity) → SoundLog (replica_of i s)
-unfolding replica_of held_clauses
-replica_sound s e i = go (lookup i s.replicas) refl
-  where
-    go : (o : Option (Log ℕ)) → lookup i s.replicas ≡ o → SoundLog (unwrap_or o empty)
-    go None q = empty_sound
-    go (Some log) q =
-        log_facts log
-        (all_facts (held_clauses s.last_scanned_lsn (held i log)) (every_lookup (sound_held s.last_scanned_lsn) i (Some log) s.replicas (state_facts s e).each q)).1.0
-
 -- A batch of a sound replica.
 module _ (i : Identity) (b : Batch) (was : Log ℕ) where
   -- Each of its entries.
@@ -103,9 +92,6 @@ module _ (i : Identity) (b : Batch) (was : Log ℕ) where
         let c : Clear (batch_entry_rows i b was e v) = clear (batch_entry_rows i b was e v) x in
         let truncation : (e.index ≤? v.log.progress.truncated_through_index) ≡ false = ap (λ (n : ℕ). e.index ≤? n) (truncated_is v.log s) ∙ c.1.1.1.1.1.1.0 in
         entry_sound e (v.lsn + 1) v.log i 1 s (truncation, c.1.1.1.1.1.1.1) c.1.1.1.1.1.0 m
-
-  abbrev fits_entry : BatchEntry → Bool
-  fits_entry e = e.log_entry.index ≤? u64_max
 
   abbrev fits_pointer : PointerRecord → Bool
   fits_pointer p = p.snapshot.last_included_index ≤? u64_max

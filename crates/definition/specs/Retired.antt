@@ -1,11 +1,11 @@
 -- Refusal 29, retired (document 02, Q-2): document 01's tables with it, and that it never occurs. Quoted words are the customer's.
 -- Assumes nothing.
-use Rattle.std.specs.Prelude.{ℕ, ◌≡◌, Bool, true, ◌&&◌, not, List, [], ◌∷◌, Option, None, Some, Result, Ok, Err}
-use Rattle.definition.specs.Table.{◌=?◌, ◌≤?◌, Row, ◌when◌, first_of, every, or_zero, present, u64_max}
+use Rattle.std.specs.Prelude.{ℕ, ◌≡◌, true, ◌&&◌, not, List, [], ◌∷◌, Option, None, Some, Result, Ok, Err}
+use Rattle.definition.specs.Table.{◌=?◌, Row, ◌when◌, first_of, or_zero, u64_max}
 use Rattle.definition.specs.Records.{Identity, LogEntry, Kind, entry, hard_state, pointer, zero_configuration_replica_id, zero_configuration_version, zero_log_index, zero_term, command_unfit}
 use Rattle.definition.specs.Log.{Log, PointerRecord, is_held, last, conflicting_payload, committed_prefix_overwrite, missing_log_prefix, non_contiguous_append, log_term_regression, log_full, entry_at_or_below_truncation, entry_at_or_below_snapshot, rows}
 use Rattle.definition.specs.Recovery.{State, Recovery, replica_of, sound_state, ask}
-use Rattle.definition.specs.Batch.{Batch, BatchEntry, Preview, preview_lsn_exhausted, preview_entry, preview_pointer, previewed, batch_rows, batch_pointer_rows, hardened, prepare}
+use Rattle.definition.specs.Batch.{Batch, BatchEntry, Preview, preview_lsn_exhausted, preview_entry, preview_pointer, previewed, batch_rows, batch_pointer_rows, hardened, prepare, fits_batch}
 use Rattle.definition.specs.Two.{fits_kind}
 
 module _ {T : Type 0} where
@@ -59,11 +59,6 @@ module _ (i : Identity) (b : Batch) (was : Log ℕ) where
 
 unfoldable pub prepare_of_01 : Recovery → Identity → Batch → Result Preview ℕ
 prepare_of_01 w i b = elim (ask (replica_of i) w) [ Ok was ↦ prepare_on_of_01 i b was | Err n ↦ Err n ]
-
--- A machine's batch: its indices are of 64 bits.
-abbrev pub fits_batch : Batch → Bool
-fits_batch b =
-    every (λ p. p.snapshot.last_included_index ≤? u64_max) (present b.snapshot) && every (λ e. e.log_entry.index ≤? u64_max) b.entries
 
 -- "29 never occurs on a sound state": every replica of it, held or not, answers a machine's record by document 01's table as by the
 -- table without 29, and so it does every machine's batch; and by neither is 29 the answer.

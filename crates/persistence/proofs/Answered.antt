@@ -35,9 +35,8 @@ use Rattle.persistence.specs.declared.TriedBatch.{TriedBatch}
 use Rattle.preview.specs.Preview.{Ran}
 use Rattle.preview.specs.Extends.{records_of}
 use Rattle.persistence.specs.Prepares as R
-use Rattle.persistence.specs.Tries.{ran_of, tried_on}
+use Rattle.persistence.specs.Tries.{ran_of, tried_on, TriedReached}
 use Rattle.persistence.specs.Answer.{pointer_records, hard_state_records, entry_record, entry_records, records_in, answer_with, bodies_of, answer_of, said_by, bodies_in, PreparesBatch}
-use Rattle.persistence.proofs.Prepared.{Low}
 use Rattle.persistence.proofs.Tried.{tried, prepare_sound, prepare_unsound}
 use Rattle.codec.specs.declared.HardState.{HardState}
 use Rattle.codec.specs.declared.RaftSnapshotPointerRecord.{RaftSnapshotPointerRecord}
@@ -109,7 +108,7 @@ module _ {s : RecoveredRaftStorage} {st : List ℕ} {d : RaftReplicaIdentity} (b
     sound_prepared o {q = q} k = opened_is e o (λ (p : Parts). PreparesBatch p.0 p.1 d b lent q) k
 
   -- Sound, and tried.
-  module _ {o : Own} (w : Owns s st d o) (low : Low o.head b) where
+  module _ {o : Own} (w : Owns s st d o) (reached : TriedReached s st d b lent o) where
     abbrev ran : Ran
     ran = tried_on s st d b lent o
 
@@ -127,12 +126,12 @@ module _ {s : RecoveredRaftStorage} {st : List ℕ} {d : RaftReplicaIdentity} (b
 
     pub answers_refused : (why : Refusal) → ran.refused ≡ Some (number_of why) → PreparesBatch s st d b lent (Err why)
     unfolding answer_of
-    answers_refused why q = sound_answer (Err why) (sym (ap bodies_in (refusal_says (tried w b lent (inr low)) q))) refl
+    answers_refused why q = sound_answer (Err why) (sym (ap bodies_in (refusal_says (tried w b lent reached) q))) refl
 
     pub answers_ready : (l : ArrayVec PreparedRecord) → ran.refused ≡ None → l.items ≡ records_in d b → PreparesBatch s st d b lent (Ok l)
     unfolding answer_of
     answers_ready l q e =
-        sound_answer (Ok l) (ap (λ (x : List PreparedRecord). Ok (bodies_of lent x)) e ∙ ap Ok (records_mean d b lent) ∙ sym (ready_says (tried w b lent (inr low)) q))
+        sound_answer (Ok l) (ap (λ (x : List PreparedRecord). Ok (bodies_of lent x)) e ∙ ap Ok (records_mean d b lent) ∙ sym (ready_says (tried w b lent reached) q))
         (ap (λ (x : List PreparedRecord). Ok (record { items = x })) e)
 
 -- What was tried is told by the answer.

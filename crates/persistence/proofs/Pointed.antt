@@ -11,7 +11,7 @@ use Rattle.definition.specs.Table.{Row, first_of, u64_max}
 use Rattle.definition.specs.Records.{Identity}
 use Rattle.definition.specs.Log as D
 use Rattle.definition.specs.Batch as M
-use Rattle.definition.proofs.Laws.{clear, clear_r}
+use Rattle.definition.proofs.Laws.{clear, clear_r, none_some}
 use Rattle.ids.specs.declared.RaftReplicaIdentity.{RaftReplicaIdentity}
 use Rattle.ids.specs.declared.Refusal.{Refusal}
 use Rattle.ids.specs.Identity.{identity_of}
@@ -28,8 +28,8 @@ use Rattle.batches.specs.declared.RaftPersistenceBatch.{RaftPersistenceBatch}
 use Rattle.preview.specs.declared.Preview.{Preview}
 use Rattle.batches.specs.Checks.{lsn_exhausted, pointer_form_rows, pointer_rows, hard_state_rows, term_rows}
 use Rattle.batches.specs.Meaning.{batch_of}
-use Rattle.preview.specs.Preview.{Ran, ran_with, ran, formed_by, onward, extend_over, Sits}
-use Rattle.persistence.specs.Prepare.{held_at, moved_down, pointed_with, point_ran, hard_header, hardened_with, harden_ran, conclude_ran, point_in, harden_in, followed, lastly_ran, entries_ran, pointed_ran, prepare_ran}
+use Rattle.preview.specs.Preview.{Ran, ran_with, ran, formed_by, onward, extend_over, Leaves, Reached, Sits}
+use Rattle.persistence.specs.Prepare.{held_at, moved_down, pointed_with, point_ran, hard_header, hardened_with, harden_ran, conclude_ran, point_in, harden_in, followed, lastly_ran, entries_ran, pointed_ran, prepare_ran, PointedReached, BatchReached}
 use Rattle.persistence.specs.Prepares.{Stands}
 use Rattle.persistence.proofs.Prepared.{point_next}
 
@@ -90,6 +90,15 @@ module _ (i : Identity) (p : Preview) (cs : List ℕ) (s : Sits p cs) where
   pointed_sits x et e =
       subst (λ (y : Ran). Sits y.preview y.bytes) (sym et) (pointed_fits x (sym (ap (λ (y : Ran). y.refused) et) ∙ ap checked_of e))
 
+-- What was read of the entries: none where a pointer is refused, else what is read on the preview that it leaves.
+module _ (d : RaftReplicaIdentity) (b : RaftPersistenceBatch) (lent : List ℕ) (p : Preview) (cs : List ℕ) (s : Option RaftSnapshotPointerRecord)
+    {a : Result (Unit {0}) Refusal} {t : Preview} {cs' : List ℕ} (et : ran_with a t cs' ≡ point_in (identity_of d) p s cs) where
+  pub reached_out : {why : Refusal} → a ≡ Err why → PointedReached d b lent p s cs
+  reached_out e w = absurd (none_some (sym w ∙ sym (ap (λ (y : Ran). y.refused) et) ∙ ap checked_of e))
+
+  pub reached_in : Reached d b.entries.now lent t cs' → PointedReached d b lent p s cs
+  reached_in k w = subst (λ (y : Ran). Reached d b.entries.now lent y.preview y.bytes) et k
+
 -- The hard state.
 module _ (kept : Option HardState) (snapshot : Option RaftSnapshotPointerRecord) (h : HardState) (p : Preview) (last : ℕ) (a : Result (Unit {0}) Refusal)
     (el : last ≡ last_of p.head) (ea : checked_of a ≡ first_of (hard_state_rows kept snapshot last h)) where
@@ -145,13 +154,20 @@ module _ (d : RaftReplicaIdentity) (b : RaftPersistenceBatch) (kept : Option Har
 -- The batch as a whole.
 module _ (d : RaftReplicaIdentity) (b : RaftPersistenceBatch) (lent : List ℕ) (p : Preview) (cs : List ℕ) (a : Result (Unit {0}) Refusal)
     (ea : (lent : List ℕ) (was : D.Log ℕ) → checked_of a ≡ first_of (M.batch_rows (identity_of d) (batch_of b lent) was)) where
-  pub prepare_out : {why : Refusal} → a ≡ Err why → (q : Result (Unit {0}) Refusal) → IsErrAnd q (λ v. v ≡ why) → ran_with q p cs ≡ prepare_ran d b lent p cs
+  pub prepare_out : {why : Refusal} → a ≡ Err why → (q : Result (Unit {0}) Refusal) → IsErrAnd q (λ v. v ≡ why) → Leaves (ran_with q p cs) (prepare_ran d b lent p cs) (BatchReached d b lent p cs)
   unfolding prepare_ran
   prepare_out e q u =
-      ap (λ (x : Result (Unit {0}) Refusal). ran_with x p cs) (handed q u)
-      ∙ ap (λ (o : Option ℕ). formed_by o p cs (pointed_ran d b p.head.hard_state lent p cs)) (sym (ap checked_of e) ∙ ea lent (view_of p.head p.entries cs))
+      let r = sym (ap checked_of e) ∙ ea lent (view_of p.head p.entries cs) in
+      record {
+        is = ap (λ (x : Result (Unit {0}) Refusal). ran_with x p cs) (handed q u) ∙ ap (λ (o : Option ℕ). formed_by o p cs (pointed_ran d b p.head.hard_state lent p cs)) r;
+        read = λ w. absurd (none_some (sym w ∙ sym r));
+      }
 
-  pub prepare_in : a ≡ (Ok tt) → {x : Ran} → x ≡ pointed_ran d b p.head.hard_state lent p cs → x ≡ prepare_ran d b lent p cs
+  pub prepare_in : a ≡ (Ok tt) → {x : Ran} → Leaves x (pointed_ran d b p.head.hard_state lent p cs) (PointedReached d b lent p b.snapshot cs)
+      → Leaves x (prepare_ran d b lent p cs) (BatchReached d b lent p cs)
   unfolding prepare_ran
-  prepare_in e ex =
-      ex ∙ ap (λ (o : Option ℕ). formed_by o p cs (pointed_ran d b p.head.hard_state lent p cs)) (sym (ap checked_of e) ∙ ea lent (view_of p.head p.entries cs))
+  prepare_in e k =
+      record {
+        is = k.is ∙ ap (λ (o : Option ℕ). formed_by o p cs (pointed_ran d b p.head.hard_state lent p cs)) (sym (ap checked_of e) ∙ ea lent (view_of p.head p.entries cs));
+        read = λ w. k.read;
+      }

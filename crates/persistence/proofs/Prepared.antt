@@ -32,12 +32,12 @@ use Rattle.batches.specs.declared.RaftPersistenceBatch.{RaftPersistenceBatch}
 use Rattle.preview.specs.declared.Preview.{Preview}
 use Rattle.batches.specs.Checks.{pointer_rows, hard_state_rows, term_rows}
 use Rattle.batches.specs.Meaning.{blank, entries_of, batch_of}
-use Rattle.preview.specs.Preview.{Ran, ran, formed_by, onward, extend_over}
+use Rattle.preview.specs.Preview.{Ran, ran, formed_by, onward, extend_over, Reached}
 use Rattle.preview.specs.Extends.{records_of, Ends, Extends}
-use Rattle.persistence.specs.Prepare.{held_at, pointed_with, point_ran, hardened_with, harden_ran, conclude_ran, point_in, harden_in, followed, lastly_ran, entries_ran, pointed_ran, beginning, prepare_ran}
+use Rattle.persistence.specs.Prepare.{held_at, pointed_with, point_ran, hardened_with, harden_ran, conclude_ran, point_in, harden_in, followed, lastly_ran, entries_ran, pointed_ran, beginning, prepare_ran, PointedReached, BatchReached}
 use Rattle.persistence.specs.Prepares.{Stands, Steps, pointer_records, hard_state_records, batch_records, Prepares}
 use Rattle.batches.proofs.Rows.{pointer_rows_lem, hard_state_means, term_means}
-use Rattle.preview.proofs.Extending.{Bounded, refused_by, passed_by, extends}
+use Rattle.preview.proofs.Extending.{refused_by, passed_by, extends}
 
 formed_is : (o : Option ℕ) (p : Preview) (cs : List ℕ) (q : Preview) (ds : List ℕ) → (formed_by o p cs (ran None q ds)).refused ≡ o
 formed_is None p cs q ds = refl
@@ -69,10 +69,10 @@ steps x rows v go w s = pick x.refused refl
     pick None e = inr (record { refused = e; says = passed_by rows v go (w ∙ e); stands = s e })
 
 follow_step : (x : Ran) (v : M.Preview) (go : M.Preview → Result M.Preview ℕ) (whole : Result M.Preview ℕ) (rest : Preview → List ℕ → Ran) (l : M.Prepared) → Steps x v go whole
-    → (Stands x v → Prepares (rest x.preview x.bytes) l (go v)) → Prepares (followed x rest) l whole
+    → (x.refused ≡ None → Stands x v → Prepares (rest x.preview x.bytes) l (go v)) → Prepares (followed x rest) l whole
 follow_step x v go whole rest l (inl a) k = inl (ends_followed x rest whole a)
 follow_step x v go whole rest l (inr a) k =
-    goes_followed x rest l whole a.refused (carry (rest x.preview x.bytes) l whole (go v) a.says (k a.stands))
+    goes_followed x rest l whole a.refused (carry (rest x.preview x.bytes) l whole (go v) a.says (k a.refused a.stands))
 
 module _ (i : Identity) (p : Preview) (cs : List ℕ) (v : M.Preview) (m : Means p.head p.entries cs v.log) (at : v.lsn ≡ p.lsn) where
   abbrev log : D.Log ℕ
@@ -215,14 +215,14 @@ module _ (i : Identity) (b : RaftPersistenceBatch) (lent : List ℕ) (k : Header
     lastly_of (Some h) =
         follow_step (harden_ran kept b.snapshot h p cs) (M.preview_hard_state i (hard_state_of h) v) (M.concluded i asking before) (M.hardened i asking before (Some (hard_state_of h)) v) terms
         (v.records ++ hard_state_records i (Some (hard_state_of h))) (hardened_some h)
-        (λ y. concludes i (harden_ran kept b.snapshot h p cs).preview (harden_ran kept b.snapshot h p cs).bytes (M.preview_hard_state i (hard_state_of h) v) y.means y.lsn b lent k ks kcs)
+        (λ w y. concludes i (harden_ran kept b.snapshot h p cs).preview (harden_ran kept b.snapshot h p cs).bytes (M.preview_hard_state i (hard_state_of h) v) y.means y.lsn b lent k ks kcs)
 
     pub lastly : Prepares (lastly_ran b.snapshot b.hard_state kept p cs) (v.records ++ hard_state_records i asking.hard_state) (M.hardened i asking before asking.hard_state v)
     unfolding lastly_ran
     lastly = lastly_of b.hard_state
 
   -- The entries before that.
-  module _ (d : RaftReplicaIdentity) (p : Preview) (cs : List ℕ) (v : M.Preview) (m : Means p.head p.entries cs v.log) (at : v.lsn ≡ p.lsn) (bounded : Bounded b.entries.now v.log) where
+  module _ (d : RaftReplicaIdentity) (p : Preview) (cs : List ℕ) (v : M.Preview) (m : Means p.head p.entries cs v.log) (at : v.lsn ≡ p.lsn) (reached : Reached d b.entries.now lent p cs) where
     abbrev es : List M.BatchEntry
     es = entries_of b.entries.now lent
 
@@ -245,20 +245,11 @@ module _ (i : Identity) (b : RaftPersistenceBatch) (lent : List ℕ) (k : Header
 
     pub entries_prepare : Prepares (entries_ran d b kept lent p cs) all (M.extended i asking before es v)
     unfolding entries_ran
-    entries_prepare = entries_go (extends i asking before d lent b.entries.now p cs v m at bounded)
-
--- The boundary that is kept, and a batch's pointer's, have 64 bits.
-pub record Low (h : Header) (b : RaftPersistenceBatch) : Type 0 where
-  pub head : h.snapshot_index ≤ u64_max
-  pub pointer : (r : RaftSnapshotPointerRecord) → b.snapshot ≡ Some r → r.last_included_index ≤ u64_max
-
--- Indices of 64 bits: the entries', or these.
-abbrev pub Bounds : Header → RaftPersistenceBatch → Type 0
-Bounds h b = ((k : ℕ) → (get_or b.entries.now k blank).index ≤ u64_max) ⊎ Low h b
+    entries_prepare = entries_go (extends i asking before d lent b.entries.now p cs v m at reached)
 
 -- The whole, on what is kept of the replica.
 module _ (d : RaftReplicaIdentity) (b : RaftPersistenceBatch) (lent : List ℕ)
-    (h : Header) (hs : List RecoveredRaftLogEntry) (cs : List ℕ) (f : Fits h hs cs) (le : length hs ≡ 64) (lc : length cs ≡ 4096) (bounds : Bounds h b) where
+    (h : Header) (hs : List RecoveredRaftLogEntry) (cs : List ℕ) (f : Fits h hs cs) (le : length hs ≡ 64) (lc : length cs ≡ 4096) (reached : BatchReached d b lent (beginning h hs) cs) where
   abbrev own : Identity
   own = identity_of d
 
@@ -292,28 +283,19 @@ module _ (d : RaftReplicaIdentity) (b : RaftPersistenceBatch) (lent : List ℕ)
   abbrev records_with : Option RaftSnapshotPointerRecord → M.Prepared
   records_with s = (pointer_records (maybe_pointer_of s) ++ records_of own asked.entries) ++ hard_state_records own asked.hard_state
 
-  base_bounded : Bounds h b → Bounded b.entries.now v₀.log
-  unfolding view_of
-  base_bounded (inl small) = inl small
-  base_bounded (inr low) = inr low.head
-
-  pointer_bounded : Bounds h b → (r : RaftSnapshotPointerRecord) → b.snapshot ≡ Some r → Bounded b.entries.now (M.preview_pointer (pointer_record_of r) v₀).log
-  unfolding D.with_pointer
-  pointer_bounded (inl small) r e = inl small
-  pointer_bounded (inr low) r e = inr (low.pointer r e)
-
-  pointed_of : (s : Option RaftSnapshotPointerRecord) → b.snapshot ≡ s → Prepares (followed (point_in own p₀ s cs) follow) (records_with s) (M.pointed own asked base (maybe_pointer_of s) v₀)
-  pointed_of None q =
+  pointed_of : (s : Option RaftSnapshotPointerRecord) → PointedReached d b lent p₀ s cs
+      → Prepares (followed (point_in own p₀ s cs) follow) (records_with s) (M.pointed own asked base (maybe_pointer_of s) v₀)
+  pointed_of None k =
       carry (follow p₀ cs) (records_with None) (M.pointed own asked base None v₀) (M.extended own asked base asked.entries v₀) pointed_none
-      (entries_prepare own b lent h hs cs d p₀ cs v₀ m₀ refl (base_bounded bounds))
-  pointed_of (Some r) q =
+      (entries_prepare own b lent h hs cs d p₀ cs v₀ m₀ refl (k refl))
+  pointed_of (Some r) k =
       follow_step (point_ran own p₀ r cs) (M.preview_pointer (pointer_record_of r) v₀) (M.extended own asked base asked.entries) (M.pointed own asked base (Some (pointer_record_of r)) v₀) follow
       (records_with (Some r)) (pointed_some r)
-      (λ y. entries_prepare own b lent h hs cs d (point_ran own p₀ r cs).preview (point_ran own p₀ r cs).bytes (M.preview_pointer (pointer_record_of r) v₀) y.means y.lsn (pointer_bounded bounds r q))
+      (λ w y. entries_prepare own b lent h hs cs d (point_ran own p₀ r cs).preview (point_ran own p₀ r cs).bytes (M.preview_pointer (pointer_record_of r) v₀) y.means y.lsn (k w))
 
-  pointed_prepare : Prepares (pointed_ran d b h.hard_state lent p₀ cs) (batch_records own asked) (M.pointed own asked base asked.snapshot v₀)
+  pointed_prepare : PointedReached d b lent p₀ b.snapshot cs → Prepares (pointed_ran d b h.hard_state lent p₀ cs) (batch_records own asked) (M.pointed own asked base asked.snapshot v₀)
   unfolding pointed_ran
-  pointed_prepare = pointed_of b.snapshot refl
+  pointed_prepare k = pointed_of b.snapshot k
 
   prepare_is : M.prepare_on own asked base ≡ M.previewed (M.batch_rows own asked base) v₀ (M.pointed own asked base asked.snapshot)
   unfolding M.prepare_on view_of
@@ -335,4 +317,4 @@ module _ (d : RaftReplicaIdentity) (b : RaftPersistenceBatch) (lent : List ℕ)
           })
       go None w =
           carry (pointed_ran d b h.hard_state lent p₀ cs) (batch_records own asked) (M.prepare_on own asked base) (M.pointed own asked base asked.snapshot v₀)
-          (prepare_is ∙ passed_by (M.batch_rows own asked base) v₀ (M.pointed own asked base asked.snapshot) w) pointed_prepare
+          (prepare_is ∙ passed_by (M.batch_rows own asked base) v₀ (M.pointed own asked base asked.snapshot) w) (pointed_prepare (reached w))

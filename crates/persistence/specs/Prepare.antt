@@ -1,6 +1,6 @@
 -- The model of preparing a batch on a preview: the pointer, the entries, the hard state, and the terms of the whole.
 -- Assumes nothing.
-use Rattle.std.specs.Prelude.{ℕ, ◌+◌, List, get_or, Option, None, Some}
+use Rattle.std.specs.Prelude.{ℕ, ◌+◌, ◌≡◌, List, get_or, Option, None, Some}
 use Rattle.definition.specs.Table.{first_of, or_zero}
 use Rattle.definition.specs.Records.{Identity}
 use Rattle.definition.specs.Batch.{batch_rows}
@@ -18,7 +18,7 @@ use Rattle.batches.specs.declared.RaftPersistenceBatch.{RaftPersistenceBatch}
 use Rattle.preview.specs.declared.Preview.{Preview}
 use Rattle.batches.specs.Checks.{pointer_rows, hard_state_rows, term_rows}
 use Rattle.batches.specs.Meaning.{batch_of}
-use Rattle.preview.specs.Preview.{Ran, ran, formed_by, onward, extend_over}
+use Rattle.preview.specs.Preview.{Ran, ran, formed_by, onward, extend_over, Reached}
 
 -- The term of the entry that a preview holds at an index.
 abbrev pub held_at : Preview → ℕ → Option ℕ
@@ -85,3 +85,14 @@ beginning h es = record { head = h; entries = es; lsn = or_zero (λ t. t) (lsn_o
 unfoldable pub prepare_ran : RaftReplicaIdentity → RaftPersistenceBatch → List ℕ → Preview → List ℕ → Ran
 prepare_ran d b lent p cs =
     formed_by (first_of (batch_rows (identity_of d) (batch_of b lent) (view_of p.head p.entries cs))) p cs (pointed_ran d b p.head.hard_state lent p cs)
+
+-- What is read of a batch's entries, on the preview that its pointer leaves ..
+abbrev pub PointedReached : RaftReplicaIdentity → RaftPersistenceBatch → List ℕ → Preview → Option RaftSnapshotPointerRecord → List ℕ → Type 0
+PointedReached d b lent p s cs =
+    (point_in (identity_of d) p s cs).refused ≡ None
+    → Reached d b.entries.now lent (point_in (identity_of d) p s cs).preview (point_in (identity_of d) p s cs).bytes
+
+-- .. where the batch as a whole is not refused.
+abbrev pub BatchReached : RaftReplicaIdentity → RaftPersistenceBatch → List ℕ → Preview → List ℕ → Type 0
+BatchReached d b lent p cs =
+    first_of (batch_rows (identity_of d) (batch_of b lent) (view_of p.head p.entries cs)) ≡ None → PointedReached d b lent p b.snapshot cs

@@ -3,7 +3,8 @@
 
 ghost use Rattle.std.specs.Prelude.{◌≡◌, [], ◌++◌, ◌+◌, ◌<◌, ◌≤◌, length};
 ghost use Rattle.storage.specs.Model.{entries_in};
-ghost use Rattle.persistence.specs.Tries.{Kept, ran_of, tried_on};
+ghost use Rattle.preview.specs.Preview.{Leaves};
+ghost use Rattle.persistence.specs.Tries.{Kept, ran_of, tried_on, TriedReached};
 ghost use Rattle.persistence.specs.Answer.{record_with, entry_records, records_in, PreparesBatch};
 
 use arrayvec::ArrayVec;
@@ -56,7 +57,8 @@ pub fn try_batch(
     lent: &[u8],
 ) -> TriedBatch
     requires { Kept state store.now own }
-    ensures { ran_of result (tried_on state store.now identity batch.entry lent.now own).bytes ≡ tried_on state store.now identity batch.entry lent.now own }
+    ensures { Leaves (ran_of result (tried_on state store.now identity batch.entry lent.now own).bytes) (tried_on state store.now identity batch.entry lent.now own)
+        (TriedReached state store.now identity batch.entry lent.now own) }
 {
     let mut preview = prepare::begin(own.head, entries_at(state, own.place));
     let at = 4096 * own.place;

@@ -6,8 +6,8 @@ ghost use Rattle.ids.specs.Identity.{identity_of};
 ghost use Rattle.view.specs.Meaning.{lsn_of};
 ghost use Rattle.view.specs.Model.{maximum_term};
 ghost use Rattle.batches.specs.Checks.{term_rows};
-ghost use Rattle.preview.specs.Preview.{ran_with, Sits};
-ghost use Rattle.persistence.specs.Prepare.{held_at, moved_down, point_ran, harden_ran, point_in, harden_in, lastly_ran, entries_ran, pointed_ran, beginning, prepare_ran};
+ghost use Rattle.preview.specs.Preview.{ran_with, Leaves, Reached, Sits};
+ghost use Rattle.persistence.specs.Prepare.{held_at, moved_down, point_ran, harden_ran, point_in, harden_in, lastly_ran, entries_ran, pointed_ran, beginning, prepare_ran, PointedReached, BatchReached};
 
 use batches::{RaftPersistenceBatch, batch, hard_state, pointer};
 use codec::{HardState, RaftSnapshotPointerRecord};
@@ -135,7 +135,8 @@ fn supply_batch(
     lent: &[u8],
 ) -> Result<(), Refusal>
     requires { Sits preview.old block.old }
-    ensures { ran_with result preview.new block.new ≡ entries_ran identity batch.entry kept lent.now preview.old block.old }
+    ensures { Leaves (ran_with result preview.new block.new) (entries_ran identity batch.entry kept lent.now preview.old block.old)
+        (Reached identity batch.entry.entries.now lent.now preview.old block.old) }
 {
     preview::extend(preview, identity, batch.entries, block, lent)?;
     lastly(preview, batch.snapshot, batch.hard_state, kept)
@@ -151,7 +152,8 @@ fn apply_batch(
     lent: &[u8],
 ) -> Result<(), Refusal>
     requires { Sits preview.old block.old }
-    ensures { ran_with result preview.new block.new ≡ pointed_ran identity batch.entry kept lent.now preview.old block.old }
+    ensures { Leaves (ran_with result preview.new block.new) (pointed_ran identity batch.entry kept lent.now preview.old block.old)
+        (PointedReached identity batch.entry lent.now preview.old batch.entry.snapshot block.old) }
 {
     point_batch(preview, identity, batch.snapshot, block)?;
     supply_batch(preview, identity, batch, kept, block, lent)
@@ -185,7 +187,8 @@ pub fn prepare_on(
     lent: &[u8],
 ) -> Result<(), Refusal>
     requires { Sits preview.old block.old }
-    ensures { ran_with result preview.new block.new ≡ prepare_ran identity batch.entry lent.now preview.old block.old }
+    ensures { Leaves (ran_with result preview.new block.new) (prepare_ran identity batch.entry lent.now preview.old block.old)
+        (BatchReached identity batch.entry lent.now preview.old block.old) }
 {
     batch::check_batch(identity, batch)?;
     let kept = preview.head.hard_state;

@@ -4,12 +4,15 @@
 use Rattle.std.specs.Prelude.{Option, None, Some, Result, Err}
 use mathlib.Core.Path.{◌≡◌, refl, sym, ap, subst, ◌∙◌}
 use mathlib.Core.Logic.{inl, inr}
+use mathlib.Core.Bool.{Bool, true}
 use mathlib.Core.List.{List, [], ◌∷◌, append_assoc, append-nil}
 use Prim.Native.Nat.{ℕ, ◌+◌}
-use Rattle.definition.specs.Table.{Row, first_of}
+use borrow.Author.Tests.{le-leb}
+use Rattle.definition.specs.Table.{◌≤?◌, Row, first_of, every, u64_max}
 use Rattle.definition.specs.Records.{Identity, entry}
 use Rattle.definition.specs.Log as D
 use Rattle.definition.specs.Batch as M
+use Rattle.definition.proofs.Laws.{and_i, none_some}
 use Rattle.ids.specs.declared.RaftReplicaIdentity.{RaftReplicaIdentity}
 use Rattle.codec.specs.Records.{log_entry_of}
 use Rattle.view.specs.Meaning.{view_of, Means}
@@ -95,3 +98,22 @@ module _ (i : Identity) (batch : M.Batch) (was : D.Log ℕ) where
     unfolding extend_over entries_of
     extends [] p cs v m at k = inr (record { next = v; refused = refl; says = extended_none v; means = m; lsn = at; records = sym (append-nil v.records) })
     extends (e ∷ es) p cs v m at k = turn e p cs v m at es (entries_of es lent) k (extends es) (entry_ran p (record_of d e) cs lent).refused refl
+
+    -- Where none is refused all are reached.
+    pub all_fit : (es : List BatchEntry) (p : Preview) (cs : List ℕ) → Reached d es lent p cs → (extend_over d es lent p cs).refused ≡ None
+        → every M.fits_entry (entries_of es lent) ≡ true
+    unfolding Reached extend_over entries_of
+    all_fit [] p cs k z = refl
+    all_fit (e ∷ es) p cs k z = go (λ w. all_fit es x.preview x.bytes (k.1 w)) x.refused refl z
+      where
+        x : Ran
+        x = entry_ran p (record_of d e) cs lent
+
+        fit : List M.BatchEntry → Bool
+        fit l = every M.fits_entry l
+
+        go : (x.refused ≡ None → (extend_over d es lent x.preview x.bytes).refused ≡ None → fit (entries_of es lent) ≡ true)
+            → (o : Option ℕ) → x.refused ≡ o → (onward o x (extend_over d es lent x.preview x.bytes)).refused ≡ None
+            → fit (entry_of lent e ∷ entries_of es lent) ≡ true
+        go more (Some n) w z = absurd (none_some (sym (sym w ∙ z)))
+        go more None w z = and_i (e.index ≤? u64_max) (fit (entries_of es lent)) (le-leb e.index u64_max k.0) (more w z)

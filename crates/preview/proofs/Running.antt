@@ -26,7 +26,7 @@ use Rattle.batches.specs.declared.BatchEntry.{BatchEntry}
 use Rattle.preview.specs.declared.Preview.{Preview}
 use Rattle.batches.specs.Checks.{entry_form_rows}
 use Rattle.batches.specs.Meaning.{blank, record_of}
-use Rattle.preview.specs.Preview.{holds_at, within, spot_in, spot_of, Ran, ran_with, ran, taken_at, formed_by, entry_ran, onward, extend_over, Reached, Extended, Sits, Takes}
+use Rattle.preview.specs.Preview.{holds_at, within, spot_in, spot_of, Ran, ran_with, ran, taken_at, formed_by, entry_ran, onward, extend_over, Reached, Leaves, Sits, Takes}
 use Rattle.preview.specs.Extends.{Next}
 use Rattle.preview.proofs.Supplied.{entry_next}
 
@@ -107,11 +107,11 @@ module _ (d : RaftReplicaIdentity) (es : List BatchEntry) (lent : List ℕ) wher
 
   module _ (p₀ : Preview) (cs₀ : List ℕ) (p : Preview) (cs : List ℕ) (o : Result (Unit {0}) Refusal) (i : ℕ) (k : Running p₀ cs₀ p cs o i) where
     -- all were taken
-    pub run_end : length es ≤ i → Extended d es lent p₀ cs₀ (ran_with o p cs)
+    pub run_end : length es ≤ i → Leaves (ran_with o p cs) (extend_over d es lent p₀ cs₀) (Reached d es lent p₀ cs₀)
     run_end l =
         record {
-          model = ap (λ (a : Result (Unit {0}) Refusal). ran_with a p cs) k.ready ∙ sym (k.whole ∙ extend_none i p cs l);
-          reached = k.reached (reached_none i p cs l);
+          is = ap (λ (a : Result (Unit {0}) Refusal). ran_with a p cs) k.ready ∙ sym (k.whole ∙ extend_none i p cs l);
+          read = k.reached (reached_none i p cs l);
         }
 
     module _ (l : i < length es) (r : RaftLogEntryRecord) (er : r ≡ own i) (small : r.index ≤ u64_max) (a : Result (Unit {0}) Refusal) (ea : checked_of a ≡ first_of (entry_form_rows p.lsn (log_entry_of r lent))) where
@@ -124,11 +124,11 @@ module _ (d : RaftReplicaIdentity) (es : List BatchEntry) (lent : List ℕ) wher
           k.reached (reached_step i p cs l (omega arith) more)
 
       -- refused, and the whole with it
-      ends : (y : Ran) (n : ℕ) → one i p cs ≡ y → y.refused ≡ Some n → Extended d es lent p₀ cs₀ y
+      ends : (y : Ran) (n : ℕ) → one i p cs ≡ y → y.refused ≡ Some n → Leaves y (extend_over d es lent p₀ cs₀) (Reached d es lent p₀ cs₀)
       ends y n e w =
           record {
-            model = sym (step ∙ turn_ends (one i p cs) y (rest i) n e w);
-            reached = step_reached (λ q. absurd (none_some (sym q ∙ ap (λ (x : Ran). x.refused) e ∙ w)));
+            is = sym (step ∙ turn_ends (one i p cs) y (rest i) n e w);
+            read = step_reached (λ q. absurd (none_some (sym q ∙ ap (λ (x : Ran). x.refused) e ∙ w)));
           }
 
       -- refused for its form
@@ -136,7 +136,7 @@ module _ (d : RaftReplicaIdentity) (es : List BatchEntry) (lent : List ℕ) wher
       unfolding entry_ran
       formed_out c w = ap (λ (z : Option ℕ). formed_by z p cs (taken_at p (spot_of p.head r.index) r cs lent)) w
 
-      pub run_formed : (why : Refusal) → a ≡ Err why → Extended d es lent p₀ cs₀ (ran_with (Err why) p cs)
+      pub run_formed : (why : Refusal) → a ≡ Err why → Leaves (ran_with (Err why) p cs) (extend_over d es lent p₀ cs₀) (Reached d es lent p₀ cs₀)
       run_formed why w =
           ends (ran (checked_of (Err why)) p cs) _ (ap (λ (z : RaftLogEntryRecord). entry_ran p z cs lent) (sym er) ∙ formed_out _ (sym ea ∙ ap checked_of w)) refl
 
@@ -158,9 +158,9 @@ module _ (d : RaftReplicaIdentity) (es : List BatchEntry) (lent : List ℕ) wher
           one_is : one i p cs ≡ ran_with z t cs'
           one_is = ap (λ (z : RaftLogEntryRecord). entry_ran p z cs lent) (sym er) ∙ formed_in ∙ sym et
 
-          pub run_refused : (why : Refusal) → z ≡ Err why → Extended d es lent p₀ cs₀ (ran_with (Err why) t cs')
+          pub run_refused : (why : Refusal) → z ≡ Err why → Leaves (ran_with (Err why) t cs') (extend_over d es lent p₀ cs₀) (Reached d es lent p₀ cs₀)
           run_refused why w =
-              subst (λ (a : Result (Unit {0}) Refusal). Extended d es lent p₀ cs₀ (ran_with a t cs')) w (ends (ran_with z t cs') _ one_is (ap checked_of w))
+              subst (λ (a : Result (Unit {0}) Refusal). Leaves (ran_with a t cs') (extend_over d es lent p₀ cs₀) (Reached d es lent p₀ cs₀)) w (ends (ran_with z t cs') _ one_is (ap checked_of w))
 
           pub run_next : z ≡ (Ok tt) → Running p₀ cs₀ t cs' o (i + 1)
           run_next w =

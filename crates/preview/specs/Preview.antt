@@ -105,10 +105,10 @@ Reached d (e ∷ es) lent p cs =
     (e.index ≤ u64_max)
     × ((entry_ran p (record_of d e) cs lent).refused ≡ None → Reached d es lent (entry_ran p (record_of d e) cs lent).preview (entry_ran p (record_of d e) cs lent).bytes)
 
--- What the entries of a batch leave: the model's, and what was read of them.
-pub record Extended (d : RaftReplicaIdentity) (es : List BatchEntry) (lent : List ℕ) (p : Preview) (cs : List ℕ) (x : Ran) : Type 0 where
-  pub model : x ≡ extend_over d es lent p cs
-  pub reached : Reached d es lent p cs
+-- What a part of a preparation leaves is the model's, and of the entries that it reached Read holds.
+pub record Leaves (x model : Ran) (Read : Type 0) : Type 0 where
+  pub is : x ≡ model
+  pub read : Read
 
 -- A preview and its block fit.
 pub record Sits (p : Preview) (cs : List ℕ) : Type 0 where

@@ -3,7 +3,7 @@
 
 ghost use Rattle.std.specs.Prelude.{◌≡◌, ◌<◌, ◌≤◌};
 ghost use Rattle.replay.specs.Plan.{planned, Replayable};
-ghost use Rattle.preview.specs.Preview.{supply_plan, holds_at, within, ran_with, taken_at, Extended, Sits, Takes};
+ghost use Rattle.preview.specs.Preview.{supply_plan, holds_at, within, ran_with, taken_at, extend_over, Reached, Leaves, Sits, Takes};
 
 use batches::{BatchEntry, entry};
 use codec::RaftLogEntryRecord;
@@ -89,7 +89,8 @@ pub fn extend(
     lent: &[u8],
 ) -> Result<(), Refusal>
     requires { Sits preview.old block.old }
-    ensures { Extended identity entries.now lent.now preview.old block.old (ran_with result preview.new block.new) }
+    ensures { Leaves (ran_with result preview.new block.new) (extend_over identity entries.now lent.now preview.old block.old)
+        (Reached identity entries.now lent.now preview.old block.old) }
 {
     let mut answer = Ok(());
     'batch: for entry in entries {

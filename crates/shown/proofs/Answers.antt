@@ -27,10 +27,9 @@ use Rattle.batches.specs.Meaning.{entries_of, batch_of}
 use Rattle.persistence.specs.declared.TriedBatch.{TriedBatch}
 use Rattle.preview.specs.Preview.{Ran}
 use Rattle.persistence.specs.Prepares.{batch_records, Prepares}
-use Rattle.persistence.specs.Tries.{ran_of, tried_on}
-use Rattle.persistence.proofs.Prepared.{Low}
+use Rattle.persistence.specs.Tries.{ran_of, tried_on, TriedReached}
 use Rattle.persistence.proofs.Answered.{told_refused}
-use Rattle.persistence.proofs.Tried.{tried, prepare_sound, prepare_unsound}
+use Rattle.persistence.proofs.Tried.{tried, tried_fit, prepare_sound, prepare_unsound}
 use Rattle.shown.specs.declared.Shown.{Shown}
 use Rattle.shown.specs.Shows.{shown_of, ShowsAt, shown_by}
 use Rattle.shown.proofs.Previewed.{preview_shows}
@@ -75,7 +74,7 @@ module _ (s : RecoveredRaftStorage) (st : List ℕ) (i : RaftReplicaIdentity) (b
   nothing_unsound t = record { means = λ y. absurd (true≢false (sym y ∙ t)); refused = λ y. refl; unsound = previewed_unsound }
 
   -- They are, and the batch was tried.
-  module _ (o : Own) (w : Owns s st i o) (low : Low o.head b) where
+  module _ (o : Own) (w : Owns s st i o) (reached : TriedReached s st i b lent o) where
     abbrev ran : Ran
     ran = tried_on s st i b lent o
 
@@ -89,7 +88,7 @@ module _ (s : RecoveredRaftStorage) (st : List ℕ) (i : RaftReplicaIdentity) (b
     module _ (d : TriedBatch) (e : ran_of d (tried_on s st i b lent o).bytes ≡ tried_on s st i b lent o) where
       pub shows_refused : (why : Refusal) → d.answer ≡ Err why → ShowsAt s st i b lent index (λ x. x) M.nothing
       unfolding M.shown_in
-      shows_refused why q = shows_sound M.nothing (go (tried w b lent (inr low)))
+      shows_refused why q = shows_sound M.nothing (go (tried w b lent reached))
         where
           go : Asked → M.nothing ≡ defined
           go (inl a) = sym (previewed_sound w.whole (Err a.number) a.says)
@@ -99,12 +98,12 @@ module _ (s : RecoveredRaftStorage) (st : List ℕ) (i : RaftReplicaIdentity) (b
           → ShowsAt s st i b lent index (λ x. x) (shown_of r)
       shows_ready q r y =
           shows_sound (shown_of r)
-          (ap shown_of y ∙ ap (λ (x : Ran). shown_of (shown_by o x.preview (M.supplied index (entries_of b.entries.now lent)) index)) e ∙ go (tried w b lent (inr low)))
+          (ap shown_of y ∙ ap (λ (x : Ran). shown_of (shown_by o x.preview (M.supplied index (entries_of b.entries.now lent)) index)) e ∙ go (tried w b lent reached))
         where
           go : Asked → shown_of (shown_by o ran.preview (M.supplied index (entries_of b.entries.now lent)) index) ≡ defined
           go (inl a) = absurd (none_some (sym (told_refused d ran (Ok tt) e q) ∙ a.refused))
           go (inr a) =
-              preview_shows s st i o w b lent index ran a.next a.stands a.says low ∙ sym (previewed_sound w.whole (Ok a.next) a.says)
+              preview_shows s st i o w b lent index ran a.next a.stands a.says (tried_fit s st i b lent o reached a.refused) ∙ sym (previewed_sound w.whole (Ok a.next) a.says)
 
 module _ {s : RecoveredRaftStorage} {st : List ℕ} {i : RaftReplicaIdentity} {b : RaftPersistenceBatch} {lent : List ℕ} {index : ℕ}
     {r : Result SoundStorage Refusal} (e : opened_of r ≡ opens s st) where

@@ -17,7 +17,8 @@ use Rattle.definition.specs.Recovery.{lookup, place_of, replica_of, held_clauses
 use Rattle.definition.specs.Batch as M
 use Rattle.definition.proofs.Laws.{and_l, all_facts}
 use Rattle.definition.proofs.Order.{Keeps, every_lookup}
-use Rattle.definition.proofs.Sound.{sound_held, state_facts}
+use Rattle.definition.proofs.Sound.{replica_sound}
+use Rattle.definition.proofs.Store.{state_sound}
 use Rattle.definition.proofs.SoundLog.{SoundLog, log_facts, empty_sound}
 use Rattle.codec.specs.declared.RaftSnapshotPointerRecord.{RaftSnapshotPointerRecord}
 use Rattle.codec.specs.Records.{maybe_pointer_of}
@@ -43,29 +44,8 @@ use Rattle.batches.specs.Meaning as B
 use Rattle.preview.specs.declared.Preview.{Preview}
 use Rattle.preview.specs.Preview.{Ran}
 use Rattle.persistence.specs.Prepares.{Stands}
-use Rattle.persistence.proofs.Prepared.{Low}
 use Rattle.shown.specs.Shows.{shown_of, payload_shown, place_shown, shown_by}
-use Rattle.shown.proofs.Unsupplied.{Holds, PointerLow, unsupplied}
-
--- The log that a sound state holds for a replica is sound.
-pub replica_sound : (s : RecoveredRaftStorage) (st : List ℕ) (i : Identity) → sound (recovery_of s st) ≡ true → SoundLog (replica_of i (meaning s st))
-unfolding sound replica_of held_clauses
-replica_sound s st i e = go (lookup i (meaning s st).replicas) (every_lookup (sound_held (meaning s st).last_scanned_lsn) i (lookup i (meaning s st).replicas) (meaning s st).replicas each refl)
-  where
-    each : every (sound_held (meaning s st).last_scanned_lsn) (meaning s st).replicas ≡ true
-    each = (state_facts (meaning s st) (and_l (sound_state (meaning s st)) (sound_store (recovery_of s st)) e)).each
-
-    go : (o : Option (Log ℕ)) → Keeps (sound_held (meaning s st).last_scanned_lsn) i o → SoundLog (unwrap_or o empty)
-    go None k = empty_sound
-    go (Some v) k = log_facts v (all_facts (held_clauses (meaning s st).last_scanned_lsn (record { id = i; log = v })) k).1.0
-
--- A batch's pointer has an index of 64 bits.
-pub pointer_fits : (b : RaftPersistenceBatch) (lent : List ℕ) {h : Header} → Low h b → PointerLow (B.batch_of b lent).snapshot
-pointer_fits b lent l = go b.snapshot refl
-  where
-    go : (s : Option RaftSnapshotPointerRecord) → b.snapshot ≡ s → PointerLow (maybe_pointer_of s)
-    go None q = tt
-    go (Some p) q = l.pointer p q
+use Rattle.shown.proofs.Unsupplied.{Holds, unsupplied}
 
 -- Where the log holds the index, that is the place looked at.
 look_holds : (h : Header) (es : List RecoveredRaftLogEntry) (cs : List ℕ) (x : ℕ) → h.len ≤ 64 → Holds (view_of h es cs) x → x - base_of h ≡ look_of h x
@@ -116,7 +96,7 @@ module _ (s : RecoveredRaftStorage) (st : List ℕ) (i : RaftReplicaIdentity) (o
       go None k = ap (λ (a : ℕ). M.of_log a n) (store_place_lem (k refl)) ∙ ap (M.of_log (M.store_place own (meaning s st) index)) size
 
   -- A preview that stands for the definition's.
-  module _ (x : Ran) (v : M.Preview) (k : Stands x v) (e : M.prepare_on own batch was ≡ Ok v) (low : Low o.head b) where
+  module _ (x : Ran) (v : M.Preview) (k : Stands x v) (e : M.prepare_on own batch was ≡ Ok v) (fit : every M.fits_entry batch.entries ≡ true) where
     abbrev p : Preview
     p = x.preview
 
@@ -131,12 +111,9 @@ module _ (s : RecoveredRaftStorage) (st : List ℕ) (i : RaftReplicaIdentity) (o
           below = omega (arith, h.index, h.below, base_is p.head p.entries x.bytes, count_is p.head p.entries x.bytes);
         })
 
-    was_low : was.snapshot_index ≤ u64_max
-    unfolding view_of
-    was_low = rw (sym (ap (λ (g : Log ℕ). g.snapshot_index) w.view)) low.head
-
     held_before : (q : ℕ) → R.place_of p.head index ≡ Some q → from ≡ None → Holds was index
-    held_before q a u = unsupplied own batch was index v (replica_sound s st own w.whole) (inl (was_low, pointer_fits b lent low)) u e (previewed_holds q a)
+    held_before q a u =
+        unsupplied own batch was index v (replica_sound (meaning s st) (state_sound (recovery_of s st) w.whole) own) fit u e (previewed_holds q a)
 
     abbrev shown_entry : Option (Entry ℕ) → M.Shown
     shown_entry y = elim y [ None ↦ M.nothing | Some g ↦ M.shown_as from (M.store_place own (meaning s st) index) g.payload ]

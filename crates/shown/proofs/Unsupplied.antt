@@ -11,7 +11,7 @@ use Rattle.std.specs.Prelude.{if◌then◌else◌, ◌⊎◌, pred, Option, None
 use Rattle.definition.specs.Table.{◌=?◌, ◌≠?◌, ◌<?◌, ◌≤?◌, Row, first_of, every, is_some, or_zero, if_some, u64_max}
 use Rattle.definition.specs.Records.{Identity, LogEntry, HardState}
 use Rattle.definition.specs.Log.{Log, PointerRecord, base, count, last, last_index, snapshot_boundary, is_held, kept_pointer, entry_at_or_below_snapshot, replay_rows, with_entry, with_pointer, with_hard}
-use Rattle.definition.specs.Batch.{BatchEntry, Batch, Preview, preview_pointer, preview_entry, preview_hard_state, previewed, batch_rows, batch_pointer_rows, batch_entry_rows, batch_hard_state_rows, hard_state_before_log_term, concluded, hardened, extended, pointed, prepare_on, supplied}
+use Rattle.definition.specs.Batch.{BatchEntry, Batch, Preview, preview_pointer, preview_entry, preview_hard_state, previewed, batch_rows, batch_pointer_rows, batch_entry_rows, batch_hard_state_rows, hard_state_before_log_term, concluded, hardened, extended, pointed, prepare_on, supplied, fits_entry}
 use Rattle.definition.proofs.Laws.{and_l, and_r, Clear, clear, none_some}
 use Rattle.definition.proofs.SoundLog.{SoundLog, Indices, else_false, base_is, last_is, placed_few, not_below, beyond_count}
 
@@ -19,35 +19,6 @@ use Rattle.definition.proofs.SoundLog.{SoundLog, Indices, else_false, base_is, l
 pub record Holds (log : Log ℕ) (x : ℕ) : Type 0 where
   pub from : base log ≤ x
   pub below : x < base log + count log
-
--- Indices of 64 bits.
-abbrev pub index_fits : BatchEntry → Bool
-index_fits e = e.log_entry.index ≤? u64_max
-
--- The boundary and the indices of a log have 64 bits.
-record Low (log : Log ℕ) : Type 0 where
-  pub boundary : log.snapshot_index ≤ u64_max
-  pub indices : base log + count log ≤ u64_max + 1
-
-low_sound : (log : Log ℕ) → SoundLog log → log.snapshot_index ≤ u64_max → Low log
-low_sound log k l = go k.indices
-  where
-    go : Indices log.snapshot_index (count log) → Low log
-    go (inl x) = record { boundary = l; indices = omega (arith, base_is log) }
-    go (inr x) = record { boundary = l; indices = omega (arith, base_is log, x.0, x.1) }
-
--- At the end of the indices the last one is 2^64 - 1.
-last_end : (log : Log ℕ) → Low log → u64_max ≤ log.snapshot_index → last log ≡ u64_max
-unfolding last last_index snapshot_boundary
-last_end log l m = go (count log =? 0) refl
-  where
-    some : log.snapshot_index ≡ 0 → ⊥
-    some = omega arith
-
-    go : (b : Bool) → (count log =? 0) ≡ b
-        → or_zero (λ n. n) (if b then option_map {T = ℕ × ℕ} (λ x. x.0) (if log.snapshot_index =? 0 then None else Some (log.snapshot_index, log.snapshot_term)) else Some (pred (base log + count log))) ≡ u64_max
-    go true q = rw (ne_eqb log.snapshot_index 0 some) (omega (arith, l.boundary))
-    go false q = let z : pred (base log + count log) ≡ u64_max = omega (arith, base_is log, l.indices, eqb-false (count log) 0 q) in z
 
 -- An entry that is accepted: what is held then is its own index, or was held before.
 module _ (e : LogEntry) (t : ℕ) (log : Log ℕ) (x : ℕ) where
@@ -62,46 +33,16 @@ module _ (e : LogEntry) (t : ℕ) (log : Log ℕ) (x : ℕ) where
   abbrev Taken : Type 0
   Taken = Clear (entry_at_or_below_snapshot e log ∷ replay_rows e log)
 
-  -- an index that is not held is the next (29, 30), and has 64 bits
-  next_low : Low log → Taken → is_held log e.index ≡ false → (e.index ≡ base log + count log) × (e.index ≤ u64_max)
+  -- an index that is not held is the next (30)
+  next_index : e.index ≤ u64_max → Taken → is_held log e.index ≡ false → e.index ≡ base log + count log
   unfolding replay_rows
-  next_low m c h = go (log.snapshot_index <? u64_max) refl
-    where
-      next : e.index ≡ last log + 1
-      next = eqb-true e.index (last log + 1) (not-false (e.index =? last log + 1) (else_false (is_held log e.index) (e.index ≠? last log + 1) c.1.1.1.1.1.0 h))
-
-      more : last log ≡ u64_max → ⊥
-      more = eqb-false (last log) u64_max (else_false (is_held log e.index) (last log =? u64_max) c.1.1.1.1.0 h)
-
-      go : (b : Bool) → (log.snapshot_index <? u64_max) ≡ b → (e.index ≡ base log + count log) × (e.index ≤ u64_max)
-      go true q =
-          let last_one : last log ≡ log.snapshot_index + count log = last_is log (ltb-true log.snapshot_index u64_max q) in
-          let least : log.snapshot_index < u64_max = ltb-true log.snapshot_index u64_max q in
-          (omega (arith, last_one, next, base_is log, least), omega (arith, last_one, next, more, base_is log, least, m.indices))
-      go false q = absurd (more (last_end log m (ltb-false log.snapshot_index u64_max q)))
-
-  -- or it is known to have
-  next_index : Low log ⊎ (e.index ≤ u64_max) → Taken → is_held log e.index ≡ false → e.index ≡ base log + count log
-  unfolding replay_rows
-  next_index (inl m) c h = (next_low m c h).0
-  next_index (inr m) c h =
+  next_index m c h =
       let above : log.snapshot_index < e.index = leb-false e.index log.snapshot_index c.0 in
       let next : e.index ≡ last log + 1 =
-      eqb-true e.index (last log + 1) (not-false (e.index =? last log + 1) (else_false (is_held log e.index) (e.index ≠? last log + 1) c.1.1.1.1.1.0 h)) in
+      eqb-true e.index (last log + 1) (not-false (e.index =? last log + 1) (else_false (is_held log e.index) (e.index ≠? last log + 1) c.1.1.1.1.0 h)) in
       omega (arith, last_is log (omega (arith, above, m)), base_is log)
 
-  entry_boundary : log.snapshot_index ≤ u64_max → (with_entry e t log).snapshot_index ≤ u64_max
-  unfolding with_entry
-  entry_boundary l = l
-
-  entry_low : Low log → Taken → Low (with_entry e t log)
-  entry_low m c = record { boundary = entry_boundary m.boundary; indices = go (is_held log e.index) refl }
-    where
-      go : (b : Bool) → is_held log e.index ≡ b → base (with_entry e t log) + count (with_entry e t log) ≤ u64_max + 1
-      go true w = omega (arith, entry_base, entry_count_lem.0 w, m.indices)
-      go false w = let n = next_low m c w in omega (arith, entry_base, entry_count_lem.1, n.0, n.1)
-
-  entry_holds : Low log ⊎ (e.index ≤ u64_max) → Taken → (e.index =? x) ≡ false → Holds (with_entry e t log) x → Holds log x
+  entry_holds : e.index ≤ u64_max → Taken → (e.index =? x) ≡ false → Holds (with_entry e t log) x → Holds log x
   entry_holds m c o h = go (is_held log e.index) refl
     where
       go : (b : Bool) → is_held log e.index ≡ b → Holds log x
@@ -120,10 +61,6 @@ unfolding base count with_pointer
 pointer_holds i p t log x s c h =
     let low : log.snapshot_index ≤ p.snapshot.last_included_index = not_below p.snapshot t log i s c in
     record { from = omega (arith, h.from, low); below = omega (arith, h.from, h.below, low, beyond_count p.snapshot t log) }
-
-pointer_low : (p : PointerRecord) (t : ℕ) (log : Log ℕ) → Low log → p.snapshot.last_included_index ≤ u64_max → Low (with_pointer p.snapshot t log)
-unfolding base count with_pointer
-pointer_low p t log m l = record { boundary = l; indices = omega (arith, l, m.indices, beyond_count p.snapshot t log) }
 
 -- A hard state leaves the log.
 hard_holds : (h : Option HardState) (log : Log ℕ) (x : ℕ) → Holds (with_hard h log) x → Holds log x
@@ -147,27 +84,6 @@ unsupplied_cons x e es = go (supplied x es) (e.log_entry.index =? x)
     go None false z = (refl, refl)
     go (Some n) b z = absurd (none_some (sym z))
 
-abbrev pub PointerLow : Option PointerRecord → Type 0
-PointerLow None = Unit {0}
-PointerLow (Some p) = p.snapshot.last_included_index ≤ u64_max
-
--- Indices of 64 bits: the log's, or the entries'.
-abbrev Fitting : List BatchEntry → Log ℕ → Type 0
-Fitting es log = Low log ⊎ (every index_fits es ≡ true)
-
-first_fits : (e : BatchEntry) (es : List BatchEntry) (log : Log ℕ) → Fitting (e ∷ es) log → Low log ⊎ (e.log_entry.index ≤ u64_max)
-first_fits e es log (inl m) = inl m
-first_fits e es log (inr m) = inr (leb-true e.log_entry.index u64_max (and_l (index_fits e) (every index_fits es) m))
-
-others_fit : (e : BatchEntry) (es : List BatchEntry) (t : ℕ) (log : Log ℕ) → Clear (entry_at_or_below_snapshot e.log_entry log ∷ replay_rows e.log_entry log)
-    → Fitting (e ∷ es) log → Fitting es (with_entry e.log_entry t log)
-others_fit e es t log c (inl m) = inl (entry_low e.log_entry t log 0 m c)
-others_fit e es t log c (inr m) = inr (and_r (index_fits e) (every index_fits es) m)
-
--- Indices of 64 bits: the log's and the pointer's, or the entries'.
-abbrev pub Fits : Batch → Log ℕ → Type 0
-Fits b was = ((was.snapshot_index ≤ u64_max) × PointerLow b.snapshot) ⊎ (every index_fits b.entries ≡ true)
-
 module _ (i : Identity) (b : Batch) (was : Log ℕ) (x : ℕ) (w : Preview) where
   concluded_holds : (v : Preview) → concluded i b was v ≡ Ok w → Holds w.log x → Holds v.log x
   unfolding concluded
@@ -185,38 +101,30 @@ module _ (i : Identity) (b : Batch) (was : Log ℕ) (x : ℕ) (w : Preview) wher
       hard_holds (Some s) v.log x
       (concluded_holds (preview_hard_state i s v) (accepted (batch_hard_state_rows i b was s v) (preview_hard_state i s v) w (concluded i b was) z).1 h)
 
-  extended_holds : (es : List BatchEntry) (v : Preview) → Fitting es v.log → supplied x es ≡ None → extended i b was es v ≡ Ok w → Holds w.log x → Holds v.log x
+  extended_holds : (es : List BatchEntry) (v : Preview) → every fits_entry es ≡ true → supplied x es ≡ None → extended i b was es v ≡ Ok w → Holds w.log x → Holds v.log x
   unfolding extended batch_entry_rows
   extended_holds [] v m u z h = hardened_holds b.hard_state v z h
   extended_holds (e ∷ es) v m u z h =
       let a = accepted (batch_entry_rows i b was e.log_entry v) (preview_entry i e.log_entry v) w (extended i b was es) z in
       let c = clear (batch_entry_rows i b was e.log_entry v) a.0 in
       let n = unsupplied_cons x e es u in
-      entry_holds e.log_entry (v.lsn + 1) v.log x (first_fits e es v.log m) c.1.1.1.1.1.1 n.1
-      (extended_holds es (preview_entry i e.log_entry v) (others_fit e es (v.lsn + 1) v.log c.1.1.1.1.1.1 m) n.0 a.1 h)
+      entry_holds e.log_entry (v.lsn + 1) v.log x (leb-true e.log_entry.index u64_max (and_l (fits_entry e) (every fits_entry es) m)) c.1.1.1.1.1.1 n.1
+      (extended_holds es (preview_entry i e.log_entry v) (and_r (fits_entry e) (every fits_entry es) m) n.0 a.1 h)
 
-  pointed_holds : (s : Option PointerRecord) (v : Preview) → v.log ≡ was → SoundLog was → ((was.snapshot_index ≤ u64_max) × PointerLow s) ⊎ (every index_fits b.entries ≡ true) → supplied x b.entries ≡ None
-      → pointed i b was s v ≡ Ok w → Holds w.log x → Holds v.log x
-  unfolding pointed batch_pointer_rows
-  pointed_holds None v l k m u z h = extended_holds b.entries v (rw l (kept m)) u z h
-    where
-      kept : ((was.snapshot_index ≤ u64_max) × Unit {0}) ⊎ (every index_fits b.entries ≡ true) → Fitting b.entries was
-      kept (inl q) = inl (low_sound was k q.0)
-      kept (inr q) = inr q
-  pointed_holds (Some p) v l k m u z h =
-      let a = accepted (batch_pointer_rows i b was p v) (preview_pointer p v) w (extended i b was b.entries) z in
-      let c = clear (batch_pointer_rows i b was p v) a.0 in
-      rw l
-      (pointer_holds i p (v.lsn + 1) was x k c.1.1.1.1.1.1.1.1.0
-      (subst (λ (g : Log ℕ). Holds (with_pointer p.snapshot (v.lsn + 1) g) x) l (extended_holds b.entries (preview_pointer p v) (kept m) u a.1 h)))
-    where
-      kept : ((was.snapshot_index ≤ u64_max) × (p.snapshot.last_included_index ≤ u64_max)) ⊎ (every index_fits b.entries ≡ true) → Fitting b.entries (with_pointer p.snapshot (v.lsn + 1) v.log)
-      kept (inl q) = inl (pointer_low p (v.lsn + 1) v.log (rw l (low_sound was k q.0)) q.1)
-      kept (inr q) = inr q
+  -- Of a sound log, where the entries' indices have 64 bits.
+  module _ (k : SoundLog was) (m : every fits_entry b.entries ≡ true) (u : supplied x b.entries ≡ None) where
+    pointed_holds : (s : Option PointerRecord) (v : Preview) → v.log ≡ was → pointed i b was s v ≡ Ok w → Holds w.log x → Holds v.log x
+    unfolding pointed batch_pointer_rows
+    pointed_holds None v l z h = extended_holds b.entries v m u z h
+    pointed_holds (Some p) v l z h =
+        let a = accepted (batch_pointer_rows i b was p v) (preview_pointer p v) w (extended i b was b.entries) z in
+        let c = clear (batch_pointer_rows i b was p v) a.0 in
+        rw l
+        (pointer_holds i p (v.lsn + 1) was x k c.1.1.1.1.1.1.1.1.0
+        (subst (λ (g : Log ℕ). Holds (with_pointer p.snapshot (v.lsn + 1) g) x) l (extended_holds b.entries (preview_pointer p v) m u a.1 h)))
 
-  -- Of a sound log, where the indices have 64 bits.
-  pub unsupplied : SoundLog was → Fits b was → supplied x b.entries ≡ None → prepare_on i b was ≡ Ok w → Holds w.log x → Holds was x
-  unfolding prepare_on
-  unsupplied k m u z h =
-      let v : Preview = record { log = was; lsn = or_zero (λ t. t) was.last_replayed_lsn; records = [] } in
-      pointed_holds b.snapshot v refl k m u (accepted (batch_rows i b was) v w (pointed i b was b.snapshot) z).1 h
+    pub unsupplied : prepare_on i b was ≡ Ok w → Holds w.log x → Holds was x
+    unfolding prepare_on
+    unsupplied z h =
+        let v : Preview = record { log = was; lsn = or_zero (λ t. t) was.last_replayed_lsn; records = [] } in
+        pointed_holds b.snapshot v refl (accepted (batch_rows i b was) v w (pointed i b was b.snapshot) z).1 h

@@ -5,9 +5,9 @@ use Rattle.definition.specs.Table.{◌=?◌, ◌<?◌, ◌≤?◌, first_of, eve
 use Rattle.definition.specs.Records.{Record, entry, form_rows}
 use Rattle.definition.specs.Log.{Log, PointerRecord, empty, base, count, snapshot_boundary, last_index, last, place, at, is_held, predecessor_term, same_term, same_content, hard_state_successor_rows, snapshot_successor_rows, replay_rows, install_rows, rows, answer_to, placed, with_entry, with_hard_state, beyond, raised_by, with_pointer, accept}
 use Rattle.definition.specs.Recovery.{fresh_state, lookup, put, keep, ascending, judged, settled, admitted, visit, log_clauses, kept_lsns, held_clauses, state_clauses, sound_state, scan, routed, guarded, observe_state, state_after, replica_of}
-use Rattle.definition.specs.Batch.{Batch}
+use Rattle.definition.specs.Batch.{Batch, fits_batch}
 use Rattle.definition.specs.Healthy.{low_pointer, never_fall}
-use Rattle.definition.specs.Retired.{replay_rows_of_01, rows_of_01, fits_batch}
+use Rattle.definition.specs.Retired.{replay_rows_of_01, rows_of_01}
 use Rattle.definition.specs.Cases.Samples.{one, byte, log_entry, snapshot_at, E, H, P, F, k_e, same_option, same_number}
 
 -- Terms along entries, behind a boundary's term.

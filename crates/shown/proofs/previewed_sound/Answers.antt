@@ -2,7 +2,6 @@
 use mathlib.Core.Path.{refl}
 use borrow.Author.Rules.{rules}
 use Rattle.readers.proofs.Owns.{owns}
-use Rattle.persistence.proofs.Prepared.{Low}
 use Rattle.persistence.proofs.Tried.{kept}
 use Rattle.shown.proofs.Answers.{shows_refused, shows_ready}
 use Rattle.shown.proofs.previewed_sound.Goals as goal
@@ -14,8 +13,7 @@ pub returns-in-Err : goal.returns-in-Err
 returns-in-Err c =
     let a = c.args in
     let w = owns c.args.sound.now.sound refl c.own-own.ensures in
-    let low : Low c.own-own.result.head a.batch = record { head = search (rules, c.own-own.type_inv); pointer = λ r e. search (rules, c.well_formed) } in
-    shows_refused a.sound.now.state.now a.sound.now.store.now a.identity a.batch a.lent.now a.index _ w low _ c.try_batch-tried.ensures _ c.in-Err.is
+    shows_refused a.sound.now.state.now a.sound.now.store.now a.identity a.batch a.lent.now a.index _ w c.try_batch-tried.ensures.read _ c.try_batch-tried.ensures.is _ c.in-Err.is
 
 pub show-requires : goal.show-requires
 show-requires c =
@@ -27,5 +25,4 @@ pub returns-in-Ok : goal.returns-in-Ok
 returns-in-Ok c =
     let a = c.args in
     let w = owns c.args.sound.now.sound refl c.own-own.ensures in
-    let low : Low c.own-own.result.head a.batch = record { head = search (rules, c.own-own.type_inv); pointer = λ r e. search (rules, c.well_formed) } in
-    shows_ready a.sound.now.state.now a.sound.now.store.now a.identity a.batch a.lent.now a.index _ w low c.try_batch-tried.result c.try_batch-tried.ensures c.in-Ok.is c.show.result (c.show.ensures a.lent.now)
+    shows_ready a.sound.now.state.now a.sound.now.store.now a.identity a.batch a.lent.now a.index _ w c.try_batch-tried.ensures.read c.try_batch-tried.result c.try_batch-tried.ensures.is c.in-Ok.is c.show.result (c.show.ensures a.lent.now)
