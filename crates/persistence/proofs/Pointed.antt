@@ -91,12 +91,12 @@ module _ (i : Identity) (p : Preview) (cs : List ℕ) (s : Sits p cs) where
       subst (λ (y : Ran). Sits y.preview y.bytes) (sym et) (pointed_fits x (sym (ap (λ (y : Ran). y.refused) et) ∙ ap checked_of e))
 
 -- What was read of the entries: none where a pointer is refused, else what is read on the preview that it leaves.
-module _ (d : RaftReplicaIdentity) (b : RaftPersistenceBatch) (lent : List ℕ) (p : Preview) (cs : List ℕ) (s : Option RaftSnapshotPointerRecord)
-    {a : Result (Unit {0}) Refusal} {t : Preview} {cs' : List ℕ} (et : ran_with a t cs' ≡ point_in (identity_of d) p s cs) where
-  pub reached_out : {why : Refusal} → a ≡ Err why → PointedReached d b lent p s cs
-  reached_out e w = absurd (none_some (sym w ∙ sym (ap (λ (y : Ran). y.refused) et) ∙ ap checked_of e))
+module _ (d : RaftReplicaIdentity) (b : RaftPersistenceBatch) (lent : List ℕ) (p : Preview) (s : Option RaftSnapshotPointerRecord) (cs : List ℕ)
+    {y : Ran} (et : y ≡ point_in (identity_of d) p s cs) where
+  pub reached_out : {n : ℕ} → y.refused ≡ Some n → PointedReached d b lent p s cs
+  reached_out e w = absurd (none_some (sym w ∙ sym (ap (λ (y : Ran). y.refused) et) ∙ e))
 
-  pub reached_in : Reached d b.entries.now lent t cs' → PointedReached d b lent p s cs
+  pub reached_in : Reached d b.entries.now lent y.preview y.bytes → PointedReached d b lent p s cs
   reached_in k w = subst (λ (y : Ran). Reached d b.entries.now lent y.preview y.bytes) et k
 
 -- The hard state.

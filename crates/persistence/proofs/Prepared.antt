@@ -1,13 +1,13 @@
 -- The pointer, the hard state and the terms of a batch do to a preview what the definition says, and so does the whole preparation.
 -- Assumes nothing.
-use Rattle.std.specs.Prelude.{◌⊎◌, Option, None, Some, option_map, Result, Ok}
+use Rattle.std.specs.Prelude.{Option, None, Some, option_map, Result, Ok}
 use mathlib.Core.Path.{◌≡◌, refl, sym, ap, subst, ◌∙◌}
 use mathlib.Core.Logic.{inl, inr}
 use mathlib.Core.List.{List, [], ◌∷◌, ◌++◌, append-nil}
-use Prim.Native.Nat.{ℕ, ◌+◌, ◌≤◌}
+use Prim.Native.Nat.{ℕ, ◌+◌}
 use native.Mathlib.Omega.{arith}
 use lib.ListN.{length, get_or}
-use Rattle.definition.specs.Table.{Row, first_of, u64_max}
+use Rattle.definition.specs.Table.{Row, first_of}
 use Rattle.definition.specs.Records.{Identity}
 use Rattle.definition.specs.Log as D
 use Rattle.definition.specs.Batch as M
@@ -31,7 +31,7 @@ use Rattle.replay.proofs.Settled.{look_held}
 use Rattle.batches.specs.declared.RaftPersistenceBatch.{RaftPersistenceBatch}
 use Rattle.preview.specs.declared.Preview.{Preview}
 use Rattle.batches.specs.Checks.{pointer_rows, hard_state_rows, term_rows}
-use Rattle.batches.specs.Meaning.{blank, entries_of, batch_of}
+use Rattle.batches.specs.Meaning.{entries_of, batch_of}
 use Rattle.preview.specs.Preview.{Ran, ran, formed_by, onward, extend_over, Reached}
 use Rattle.preview.specs.Extends.{records_of, Ends, Extends}
 use Rattle.persistence.specs.Prepare.{held_at, pointed_with, point_ran, hardened_with, harden_ran, conclude_ran, point_in, harden_in, followed, lastly_ran, entries_ran, pointed_ran, beginning, prepare_ran, PointedReached, BatchReached}

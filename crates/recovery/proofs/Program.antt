@@ -1,4 +1,5 @@
--- What the contracts promise of a run of calls is the definition's run; so the claim on two recoveries speaks of the program.
+-- What the contracts promise of a run of calls is the definition's run; so the claim on two recoveries and the guarantee (document 02,
+-- Q-2) speak of the program.
 -- Assumes nothing.
 use Rattle.std.specs.Prelude.{Option, None, Some, Ok}
 use mathlib.Core.Path.{◌≡◌, refl, sym, ap, subst, ◌∙◌}
@@ -10,11 +11,12 @@ use lib.ListN.{length, take, length-append}
 use Rattle.definition.specs.Table.{first_of, u64_max}
 use Rattle.definition.specs.Records.{Record, Content, content}
 use Rattle.definition.specs.Log as D
-use Rattle.definition.specs.Recovery.{Out, out, State, Recovery, Chunk, fresh, unsound_state, unsound_store, non_increasing_wal_lsn, routed, guarded, observe_state, stored, with_store, observe, finish, answers, observed}
+use Rattle.definition.specs.Recovery.{Out, out, State, Recovery, Chunk, lookup, fresh, unsound_state, unsound_store, non_increasing_wal_lsn, routed, guarded, observe_state, stored, with_store, observe, finish, answers, observed}
 use Rattle.definition.specs.Two.{Agreement, bare, replicas_left, store_left}
 use Rattle.definition.proofs.Sound.{routed_scanned}
 use Rattle.definition.proofs.Chunk.{spent, cut, answers_append, observed_append}
 use Rattle.definition.proofs.Final.{two_recoveries}
+use Rattle.definition.proofs.Guaranteed.{guarantee}
 use Rattle.store.specs.Zeros.{zeros}
 use Rattle.codec.specs.Records.{record_of}
 use Rattle.replay.specs.Plan.{answer_of}
@@ -26,7 +28,7 @@ use Rattle.soundness.proofs.Fresh.{fresh_recovery, fresh_test}
 use Rattle.finishing.specs.declared.Finished.{Finished}
 use Rattle.finishing.specs.Finishes.{finished_done, unsound_done}
 use Rattle.routing.specs.Observe.{journal_of}
-use Rattle.recovery.specs.Program.{Call, one, chunk, Kept, chunk_records, records_of, answers_of, state_after_calls, store_after_calls, Recovers, ProgramAgrees}
+use Rattle.recovery.specs.Program.{Call, one, chunk, Kept, chunk_records, records_of, answers_of, state_after_calls, store_after_calls, Recovers, ProgramAgrees, ProgramGuarantees}
 
 -- A record is counted once at most.
 abbrev scanned : Recovery → ℕ
@@ -115,8 +117,11 @@ module _ (cs : List Call) (d : Finished) (k : Recovers cs d) (few : length (reco
   told : answers_of fresh_storage (zeros 32768) cs ≡ answers fresh (records_of cs)
   told = run.answered ∙ ap (λ (w : Recovery). answers w (records_of cs)) fresh_recovery
 
+  observed_is : observed fresh (records_of cs) ≡ recovery_of s st
+  observed_is = ap (λ (w : Recovery). observed w (records_of cs)) (sym fresh_recovery) ∙ sym run.left
+
   done : finish (observed fresh (records_of cs)) ≡ out D.finished (recovery_of d.state st)
-  done = ap finish (ap (λ (w : Recovery). observed w (records_of cs)) (sym fresh_recovery) ∙ sym run.left) ∙ k.finishes.means run.sound
+  done = ap finish observed_is ∙ k.finishes.means run.sound
 
   finished_is : d.answer ≡ (Ok tt)
   finished_is =
@@ -139,4 +144,12 @@ program_agrees A B d e r a b =
       same_answers = λ i. rw (told A d a r.few_A, told B e b r.few_B) (t.same_answers i);
       same_replicas = sym (ap bare (replicas_are A d a r.few_A)) ∙ t.same_replicas ∙ ap bare (replicas_are B e b r.few_B);
       same_store = sym (store_is A d a r.few_A) ∙ t.same_store ∙ store_is B e b r.few_B;
+    }
+
+pub program_guarantees : ProgramGuarantees
+program_guarantees cs d few m l k =
+    record {
+      after_the_last = λ i log e.
+          guarantee.after_the_last (records_of cs) m l i log (ap (λ (w : Recovery). lookup i w.state.replicas) (observed_is cs d k few) ∙ e);
+      after_finishing = λ i log e. guarantee.after_finishing (records_of cs) m l i log (ap (lookup i) (replicas_are cs d k few) ∙ e);
     }

@@ -1,10 +1,12 @@
 -- Runs of calls: each call gets the state and store that the one before left, written by nobody else (demand 3).
 -- Assumes nothing.
-use Rattle.std.specs.Prelude.{◌≡◌, List, [], ◌∷◌, ◌++◌, ℕ, take, Ok}
+use Rattle.std.specs.Prelude.{◌≡◌, ◌<◌, true, List, [], ◌∷◌, ◌++◌, ℕ, length, take, Some, Ok}
+use Rattle.definition.specs.Table.{every, u64_max}
 use Rattle.definition.specs.Records.{Identity, Record}
 use Rattle.definition.specs.Log as D
-use Rattle.definition.specs.Recovery.{answers}
-use Rattle.definition.specs.Two.{Recoveries, bare, pick, is_of}
+use Rattle.definition.specs.Recovery.{lookup, answers}
+use Rattle.definition.specs.Two.{fits, Recoveries, bare, pick, is_of}
+use Rattle.definition.specs.Healthy.{low_pointer, Guaranteed}
 use Rattle.definition.proofs.Chunk.{spent}
 use Rattle.store.specs.Zeros.{zeros}
 use Rattle.codec.specs.declared.WalRecord.{WalRecord}
@@ -74,3 +76,16 @@ pub record Agrees (A B : List Call) (d e : Finished) : Type 0 where
 
 abbrev pub ProgramAgrees : Type 0
 ProgramAgrees = (A B : List Call) (d e : Finished) → Recoveries (records_of A) (records_of B) → Recovers A d → Recovers B e → Agrees A B d e
+
+-- What any healthy journal guarantees (document 02, Q-2), of a run of the program: after the last call, and after finishing.
+pub record GuaranteedRun (cs : List Call) (d : Finished) : Type 0 where
+  pub after_the_last :
+      (i : Identity) (log : D.Log ℕ)
+      → lookup i (meaning (state_after_calls fresh_storage cs) (store_after_calls (zeros 32768) cs)).replicas ≡ Some log → Guaranteed (records_of cs) i log
+  pub after_finishing :
+      (i : Identity) (log : D.Log ℕ) → lookup i (meaning d.state (store_after_calls (zeros 32768) cs)).replicas ≡ Some log → Guaranteed (records_of cs) i log
+
+abbrev pub ProgramGuarantees : Type 0
+ProgramGuarantees =
+    (cs : List Call) (d : Finished) → length (records_of cs) < u64_max → every fits (records_of cs) ≡ true → every low_pointer (records_of cs) ≡ true
+    → Recovers cs d → GuaranteedRun cs d

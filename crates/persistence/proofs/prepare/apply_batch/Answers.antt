@@ -1,6 +1,7 @@
 -- `prepare::apply_batch` meets its contract.
-use mathlib.Core.Path.{◌∙◌}
+use mathlib.Core.Path.{ap, ◌∙◌}
 use Rattle.ids.specs.Identity.{identity_of}
+use Rattle.ids.specs.Refusal.{checked_of}
 use Rattle.persistence.specs.Prepare.{entries_ran}
 use Rattle.persistence.proofs.Pointed.{followed_out, followed_in, pointed_sits, reached_out, reached_in, pointed_is}
 use Rattle.persistence.proofs.prepare.apply_batch.Goals as goal
@@ -12,7 +13,7 @@ returns-in_err-point_batch c =
       is =
           followed_out _ (entries_ran a.identity a.batch a.kept a.lent.now) c.point_batch.ensures c.in_err-point_batch.was _ c.from_residual.ensures.1
           ∙ pointed_is a.identity a.batch a.kept a.lent.now a.preview.now a.block.now;
-      read = reached_out a.identity a.batch a.lent.now a.preview.now a.block.now a.batch.snapshot c.point_batch.ensures c.in_err-point_batch.was;
+      read = reached_out a.identity a.batch a.lent.now a.preview.now a.batch.snapshot a.block.now c.point_batch.ensures (ap checked_of c.in_err-point_batch.was);
     }
 
 pub supply_batch-requires : goal.supply_batch-requires
@@ -27,5 +28,5 @@ returns c =
       is =
           followed_in _ (entries_ran a.identity a.batch a.kept a.lent.now) c.point_batch.ensures c.in_ok-point_batch.was c.supply_batch.ensures.is
           ∙ pointed_is a.identity a.batch a.kept a.lent.now a.preview.now a.block.now;
-      read = reached_in a.identity a.batch a.lent.now a.preview.now a.block.now a.batch.snapshot c.point_batch.ensures c.supply_batch.ensures.read;
+      read = reached_in a.identity a.batch a.lent.now a.preview.now a.batch.snapshot a.block.now c.point_batch.ensures c.supply_batch.ensures.read;
     }

@@ -1,5 +1,5 @@
 -- `prepare::point` meets its contract.
-use Prim.Native.Nat.{◌<◌, ◌≤◌}
+use Prim.Native.Nat.{◌<◌}
 use Rattle.definition.specs.Table.{u64_max}
 use Rattle.ids.specs.Identity.{identity_of}
 use Rattle.replay.proofs.Written.{covered_few, dropped_is}
