@@ -1,8 +1,7 @@
 -- What a tried batch shows of an index is what the definition shows.
 -- Assumes nothing.
-use Rattle.std.specs.Prelude.{Option, None, Some, unwrap_or, Ok}
+use Rattle.std.specs.Prelude.{Option, None, Some, Ok}
 use mathlib.Core.Path.{◌≡◌, refl, sym, ap, subst, ◌∙◌}
-use mathlib.Core.Logic.{inl}
 use mathlib.Core.Bool.{true}
 use mathlib.Core.List.{List}
 use Prim.Native.Nat.{ℕ, ◌+◌, ◌*◌, ◌-◌, ◌<◌, ◌≤◌}
@@ -10,18 +9,13 @@ use native.Mathlib.Omega.{arith}
 use borrow.Author.Tests.{lt-ltb}
 use lib.ListN.{length, take, get_or}
 use lib.Seq.{length-take-le}
-use Rattle.definition.specs.Table.{every, or_zero, u64_max}
+use Rattle.definition.specs.Table.{every, or_zero}
 use Rattle.definition.specs.Records.{Identity}
-use Rattle.definition.specs.Log.{Entry, Log, empty, at, place}
-use Rattle.definition.specs.Recovery.{lookup, place_of, replica_of, held_clauses, sound_state, sound_store, sound}
+use Rattle.definition.specs.Log.{Entry, Log, at, place}
+use Rattle.definition.specs.Recovery.{place_of, replica_of}
 use Rattle.definition.specs.Batch as M
-use Rattle.definition.proofs.Laws.{and_l, all_facts}
-use Rattle.definition.proofs.Order.{Keeps, every_lookup}
 use Rattle.definition.proofs.Sound.{replica_sound}
 use Rattle.definition.proofs.Store.{state_sound}
-use Rattle.definition.proofs.SoundLog.{SoundLog, log_facts, empty_sound}
-use Rattle.codec.specs.declared.RaftSnapshotPointerRecord.{RaftSnapshotPointerRecord}
-use Rattle.codec.specs.Records.{maybe_pointer_of}
 use Rattle.ids.specs.declared.RaftReplicaIdentity.{RaftReplicaIdentity}
 use Rattle.ids.specs.Identity.{identity_of}
 use Rattle.store.proofs.Part.{length_part}

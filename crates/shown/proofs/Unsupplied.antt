@@ -2,18 +2,17 @@
 -- Assumes nothing.
 use mathlib.Core.Path.{◌≡◌, refl, sym, subst}
 use mathlib.Core.Bool.{Bool, true, false}
-use mathlib.Core.Logic.{inl, inr}
 use mathlib.Core.List.{List, [], ◌∷◌}
 use Prim.Native.Nat.{ℕ, ◌+◌, ◌<◌, ◌≤◌}
 use native.Mathlib.Omega.{arith}
-use borrow.Author.Tests.{eqb-true, eqb-false, ne_eqb, leb-true, leb-false, ltb-true, ltb-false, not-false}
-use Rattle.std.specs.Prelude.{if◌then◌else◌, ◌⊎◌, pred, Option, None, Some, option_map, Result, Ok, Err}
-use Rattle.definition.specs.Table.{◌=?◌, ◌≠?◌, ◌<?◌, ◌≤?◌, Row, first_of, every, is_some, or_zero, if_some, u64_max}
+use borrow.Author.Tests.{eqb-true, eqb-false, leb-true, leb-false, not-false}
+use Rattle.std.specs.Prelude.{if◌then◌else◌, Option, None, Some, Result, Ok, Err}
+use Rattle.definition.specs.Table.{◌=?◌, ◌≠?◌, ◌<?◌, Row, first_of, every, is_some, or_zero, if_some, u64_max}
 use Rattle.definition.specs.Records.{Identity, LogEntry, HardState}
-use Rattle.definition.specs.Log.{Log, PointerRecord, base, count, last, last_index, snapshot_boundary, is_held, kept_pointer, entry_at_or_below_snapshot, replay_rows, with_entry, with_pointer, with_hard}
+use Rattle.definition.specs.Log.{Log, PointerRecord, base, count, last, is_held, kept_pointer, entry_at_or_below_snapshot, replay_rows, with_entry, with_pointer, with_hard}
 use Rattle.definition.specs.Batch.{BatchEntry, Batch, Preview, preview_pointer, preview_entry, preview_hard_state, previewed, batch_rows, batch_pointer_rows, batch_entry_rows, batch_hard_state_rows, hard_state_before_log_term, concluded, hardened, extended, pointed, prepare_on, supplied, fits_entry}
 use Rattle.definition.proofs.Laws.{and_l, and_r, Clear, clear, none_some}
-use Rattle.definition.proofs.SoundLog.{SoundLog, Indices, else_false, base_is, last_is, placed_few, not_below, beyond_count}
+use Rattle.definition.proofs.SoundLog.{SoundLog, else_false, base_is, last_is, placed_few, not_below, beyond_count}
 
 -- A log holds an index.
 pub record Holds (log : Log ℕ) (x : ℕ) : Type 0 where

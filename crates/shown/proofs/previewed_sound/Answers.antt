@@ -1,6 +1,5 @@
 -- `previewed_sound` meets its contract.
 use mathlib.Core.Path.{refl}
-use borrow.Author.Rules.{rules}
 use Rattle.readers.proofs.Owns.{owns}
 use Rattle.persistence.proofs.Tried.{kept}
 use Rattle.shown.proofs.Answers.{shows_refused, shows_ready}
