@@ -52,6 +52,7 @@ guaranteed =
     ∷ not (every low_pointer at_the_end)
     ∷ every low_pointer replaced_and_cut
     ∷ low_pointer (P 1 18446744073709551614 1)
+    ∷ low_pointer (F 1)
     ∷ []
   where
     at_the_end : List Record
