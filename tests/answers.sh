@@ -44,7 +44,7 @@ limit() {
 }
 
 # Every number that a run can answer stands in at least three stored answers: all but 1 (no journal leaves an unsound state) and 29
-# (no sound state of 64-bit numbers meets it).
+# (retired).
 numbers() {
     local seen n
     seen=$(cut -f3 tests/*/texts.tsv tests/*/vectors.tsv | sed 's/\\n/\n/g' | awk '/refused/ { n[$NF]++ } END { for (i in n) print i, n[i] }')
