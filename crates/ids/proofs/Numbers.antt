@@ -3,6 +3,7 @@
 use Prim.Native.Nat.{ℕ, pred}
 use mathlib.Core.Path.{◌≡◌, refl, ap, sym, ◌∙◌}
 use mathlib.Core.List.{List, [], ◌∷◌}
+use native.Mathlib.Omega.{arith}
 use lib.ListN.{get_or}
 use Rattle.ids.specs.declared.Refusal.{Refusal}
 use Rattle.ids.specs.declared.Refusal.TheVariants as R
@@ -132,6 +133,10 @@ found R.BoundaryTermChanged = refl
 
 pub number_of_injective : (r s : Refusal) → number_of r ≡ number_of s → r ≡ s
 number_of_injective r s e = sym (found r) ∙ ap refusal_at e ∙ found s
+
+-- No refusal has the number 29 (document 02, Q-2).
+pub reserved_29 : (r : Refusal) → number_of r ≡ 29 → ⊥
+reserved_29 r e = let z : ◌≡◌ {A = ℕ} 29 30 = sym e ∙ ap number_of (sym (found r) ∙ ap refusal_at e) in omega arith
 
 pub checked_of_injective : (a b : Result (Unit {0}) Refusal) → checked_of a ≡ checked_of b → a ≡ b
 checked_of_injective (Ok _) (Ok _) e = refl
