@@ -18,5 +18,7 @@ pub mod Same
 pub mod Chaining
 pub mod Again
 pub mod Healthy
+pub mod Carried
 pub mod Guaranteed
+pub mod Commits
 pub mod Retired

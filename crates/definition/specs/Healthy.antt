@@ -36,15 +36,19 @@ module _ {T : Type 0} where
     -- "the view's commit is at most the last index, none counting as zero"
     pub committed : log.committed_index ≤ last log
 
--- An entry is the one that a record of its replica and index brought, the nth of a list from empty, which was accepted.
-pub record Brought (rs : List Record) (i : Identity) (index : ℕ) (e : Entry ℕ) : Type 0 where
+-- A record of a list from empty that was accepted: the nth, which says k of the replica i under an LSN.
+pub record Accepted (rs : List Record) (i : Identity) (k : Kind) (lsn : ℕ) : Type 0 where
   pub n : ℕ
   pub by : Record
   pub nth : slice_get rs n ≡ Some by
   pub accepted : option_map is_accepted (slice_get (answers fresh rs) n) ≡ Some true
-  pub lsn : by.lsn ≡ e.lsn
+  pub under : by.lsn ≡ lsn
+  pub says : content by ≡ Some (i, k)
+
+-- An entry is the one that an accepted record of its replica and index brought.
+pub record Brought (rs : List Record) (i : Identity) (index : ℕ) (e : Entry ℕ) : Type 0 where
   pub version : ℕ
-  pub says : content by ≡ Some (i, entry version (record { index = index; term = e.term; payload = e.payload }))
+  pub by : Accepted rs i (entry version (record { index = index; term = e.term; payload = e.payload })) e.lsn
 
 -- What is guaranteed of a replica.
 pub record Guaranteed (rs : List Record) (i : Identity) (log : Log ℕ) : Type 0 where

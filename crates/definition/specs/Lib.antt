@@ -7,5 +7,6 @@ pub mod Batch
 pub mod Two
 pub mod Chaining
 pub mod Healthy
+pub mod Commits
 pub mod Retired
 pub mod Cases
