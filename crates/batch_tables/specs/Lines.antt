@@ -81,7 +81,7 @@ entry_line version i index term payload = row ((69 ∷ []) ∷ owner_fields vers
 
 -- H version group replica term vote commit
 abbrev pub hard_state_line : ℕ → Identity → HardState → List ℕ
-hard_state_line version i h = row ((72 ∷ []) ∷ owner_fields version i (hard_fields (Some h)))
+hard_state_line version i h = row ((72 ∷ []) ∷ owner_fields version i (hard_fields h))
 
 -- ID, index, term, applied, size and rest, a space behind each
 abbrev pub snapshot_text : Pointer → List ℕ

@@ -75,7 +75,7 @@ progress_fields p = progress_word ∷ decimal p.truncated_through_index ∷ deci
 -- Current term, vote, commit.
 abbrev pub kept_fields : Option HardState → List (List ℕ)
 kept_fields None = hard_word ∷ (45 ∷ []) ∷ []
-kept_fields (Some h) = hard_word ∷ hard_fields (Some h)
+kept_fields (Some h) = hard_word ∷ hard_fields h
 
 abbrev pub position_fields : Line → List (List ℕ)
 position_fields l =

@@ -57,10 +57,20 @@ cases =
     (114 ∷ 101 ∷ 112 ∷ 108 ∷ 105 ∷ 99 ∷ 97 ∷ 115 ∷ 32 ∷ 49 ∷ 10
     ∷ 51 ∷ 32 ∷ 52 ∷ 32 ∷ 48 ∷ 32 ∷ 48 ∷ 32 ∷ 48 ∷ 32 ∷ 45 ∷ 32 ∷ 48 ∷ 10
     ∷ 101 ∷ 110 ∷ 116 ∷ 114 ∷ 105 ∷ 101 ∷ 115 ∷ 32 ∷ 48 ∷ 10 ∷ [])
-    -- a vote; the hard state's commit, not the view's
+    -- a vote; the view's commit, which is the larger
     ∷ same_bytes (tables (state_of (held (id 1 2) (log_of [] 0 0 6 None (Some (hard_of 7 (Some 10) 5)) (Some 3) None None) ∷ []) 1 (Some 3)))
     (114 ∷ 101 ∷ 112 ∷ 108 ∷ 105 ∷ 99 ∷ 97 ∷ 115 ∷ 32 ∷ 49 ∷ 10
+    ∷ 49 ∷ 32 ∷ 50 ∷ 32 ∷ 48 ∷ 32 ∷ 48 ∷ 32 ∷ 55 ∷ 32 ∷ 49 ∷ 48 ∷ 32 ∷ 54 ∷ 10
+    ∷ 101 ∷ 110 ∷ 116 ∷ 114 ∷ 105 ∷ 101 ∷ 115 ∷ 32 ∷ 48 ∷ 10 ∷ [])
+    -- the hard state's commit, which is the larger
+    ∷ same_bytes (tables (state_of (held (id 1 2) (log_of [] 0 0 4 None (Some (hard_of 7 (Some 10) 5)) (Some 3) None None) ∷ []) 1 (Some 3)))
+    (114 ∷ 101 ∷ 112 ∷ 108 ∷ 105 ∷ 99 ∷ 97 ∷ 115 ∷ 32 ∷ 49 ∷ 10
     ∷ 49 ∷ 32 ∷ 50 ∷ 32 ∷ 48 ∷ 32 ∷ 48 ∷ 32 ∷ 55 ∷ 32 ∷ 49 ∷ 48 ∷ 32 ∷ 53 ∷ 10
+    ∷ 101 ∷ 110 ∷ 116 ∷ 114 ∷ 105 ∷ 101 ∷ 115 ∷ 32 ∷ 48 ∷ 10 ∷ [])
+    -- no hard state: the view's commit
+    ∷ same_bytes (tables (state_of (held (id 1 2) (log_of [] 0 0 6 None None None None None) ∷ []) 1 (Some 3)))
+    (114 ∷ 101 ∷ 112 ∷ 108 ∷ 105 ∷ 99 ∷ 97 ∷ 115 ∷ 32 ∷ 49 ∷ 10
+    ∷ 49 ∷ 32 ∷ 50 ∷ 32 ∷ 48 ∷ 32 ∷ 48 ∷ 32 ∷ 48 ∷ 32 ∷ 45 ∷ 32 ∷ 54 ∷ 10
     ∷ 101 ∷ 110 ∷ 116 ∷ 114 ∷ 105 ∷ 101 ∷ 115 ∷ 32 ∷ 48 ∷ 10 ∷ [])
     -- a boundary: entries from the index after it on
     ∷ same_bytes (tables (state_of (held (id 2 1) (log_of (k_e 4 9 ∷ k_e 5 12 ∷ []) 9 3 9 (Some 12) (Some (hard_of 5 None 9)) None (Some (snapshot_at 9 3)) (Some 8)) ∷ []) 3 (Some 12)))

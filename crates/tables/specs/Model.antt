@@ -9,7 +9,7 @@ use Rattle.view.specs.declared.RecoveredRaftLogEntry.{RecoveredRaftLogEntry}
 use Rattle.view.specs.Meaning.{no_entry, id_of, base_of}
 use Rattle.storage.specs.declared.RecoveredRaftStorage.{RecoveredRaftStorage}
 use Rattle.storage.specs.Model.{no_header, head_at}
-use Rattle.tables.specs.Tables.{replicas_word, entries_word, replica_line, entry_line, count_line}
+use Rattle.tables.specs.Tables.{replicas_word, entries_word, shown_hard, replica_line, entry_line, count_line}
 
 -- f 0, f 1, .. below n, one after the other; and their sum.
 unfoldable pub lines_to : ℕ → (ℕ → List ℕ) → List ℕ
@@ -22,7 +22,7 @@ sum_to (suc n) f = sum_to n f + f n
 
 -- A replica's line, by its header.
 abbrev pub head_line : Header → List ℕ
-head_line h = replica_line (id_of h) h.snapshot_index h.snapshot_term (maybe_hard_state_of h.hard_state)
+head_line h = replica_line (id_of h) h.snapshot_index h.snapshot_term (shown_hard (maybe_hard_state_of h.hard_state) h.committed_index)
 
 -- The index of entry place q, where place 0 has the index `first`.
 abbrev pub index_at : ℕ → ℕ → ℕ

@@ -1,7 +1,7 @@
 -- What the program `recover` prints (document 01, 'The program `recover` reads ..'), as ASCII bytes: numbers in decimal, single
 -- spaces, and a newline at the end of each line.
 -- Assumes nothing.
-use Rattle.std.specs.Prelude.{ℕ, zero, suc, ◌+◌, ◌/◌, ◌%◌, Bool, true, false, List, [], ◌∷◌, ◌++◌, length, Option, None, Some}
+use Rattle.std.specs.Prelude.{ℕ, zero, suc, ◌+◌, ◌/◌, ◌%◌, max, Bool, true, false, List, [], ◌∷◌, ◌++◌, length, Option, None, Some}
 use Rattle.definition.specs.Table.{◌<?◌}
 use Rattle.definition.specs.Records.{Identity, HardState}
 use Rattle.definition.specs.Log.{Entry, Log, base, count}
@@ -48,13 +48,18 @@ abbrev pub vote_field : Option ℕ → List ℕ
 vote_field None = 45 ∷ []
 vote_field (Some v) = decimal v
 
--- Current term, vote, commit of the hard state; without one those that Raft begins with.
-abbrev pub hard_fields : Option HardState → List (List ℕ)
-hard_fields None = decimal 0 ∷ vote_field None ∷ decimal 0 ∷ []
-hard_fields (Some h) = decimal h.current_term ∷ vote_field h.voted_for ∷ decimal h.commit ∷ []
+-- Current term, vote, commit.
+abbrev pub hard_fields : HardState → List (List ℕ)
+hard_fields h = decimal h.current_term ∷ vote_field h.voted_for ∷ decimal h.commit ∷ []
 
--- group, replica, boundary index, boundary term, current term, vote, commit (the hard state's)
-abbrev pub replica_line : Identity → ℕ → ℕ → Option HardState → List ℕ
+-- What is shown of a replica's hard state: its term and vote, and "the larger of the hard state's commit and the view's" (document 02,
+-- Q-3). Without a hard state its term and commit count as 0, and there is no vote.
+abbrev pub shown_hard : Option HardState → ℕ → HardState
+shown_hard None committed = record { current_term = 0; voted_for = None; commit = committed }
+shown_hard (Some h) committed = record { current_term = h.current_term; voted_for = h.voted_for; commit = max h.commit committed }
+
+-- group, replica, boundary index, boundary term, then what is shown of the hard state
+abbrev pub replica_line : Identity → ℕ → ℕ → HardState → List ℕ
 replica_line i index term hard = row (decimal i.group ∷ decimal i.replica ∷ decimal index ∷ decimal term ∷ hard_fields hard)
 
 -- group, replica, index, term, LSN
@@ -63,7 +68,7 @@ entry_line i index term lsn = row (decimal i.group ∷ decimal i.replica ∷ dec
 
 -- A replica's line, and its entries' lines: the first has the index after the boundary's, each other one the next.
 abbrev pub line_of : Held (Log ℕ) → List ℕ
-line_of a = replica_line a.id a.log.snapshot_index a.log.snapshot_term a.log.hard_state
+line_of a = replica_line a.id a.log.snapshot_index a.log.snapshot_term (shown_hard a.log.hard_state a.log.committed_index)
 
 unfoldable pub lines_from : Identity → ℕ → List (Entry ℕ) → List ℕ
 lines_from i index [] = []

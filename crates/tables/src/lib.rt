@@ -4,9 +4,9 @@
 
 ghost use Rattle.std.specs.Prelude.{◌≡◌, ◌++◌, ◌+◌, ◌≤◌, ◌<◌, length, get_or};
 ghost use Rattle.ids.specs.Identity.{identity_of};
-ghost use Rattle.codec.specs.Records.{maybe_hard_state_of};
+ghost use Rattle.codec.specs.Records.{hard_state_of, maybe_hard_state_of};
 ghost use Rattle.storage.specs.Model.{no_header};
-ghost use Rattle.tables.specs.Tables.{row, hard_fields, entry_line, refused_line, malformed_line};
+ghost use Rattle.tables.specs.Tables.{row, shown_hard, entry_line, refused_line, malformed_line};
 ghost use Rattle.tables.specs.Model.{lines_to, sum_to, head_line, head_lines, len_of, log_lines, tables_of};
 
 mod output;
@@ -17,20 +17,25 @@ pub use output::Output;
 use storage::RecoveredRaftStorage;
 use view::{Header, RecoveredRaftLogEntry};
 
-// The hard state's fields; those that Raft begins with where there is none.
-#[tactic(auto, unfolding(crate::specs::Tables::row, crate::specs::Tables::decimal, crate::specs::Tables::digits_within))]
-fn put_maybe_hard_state(out: &mut Output<65536>, kept: Option<HardState>)
-    requires { length out.old + 63 ≤ 65536 }
-    ensures text { out.new ≡ out.old ++ row (hard_fields (maybe_hard_state_of kept)) }
-    ensures short { length out.new ≤ length out.old + 63 }
+// What is shown of a replica's hard state: the commit is the larger of its own and the view's. Without one, what Raft begins with and
+// the view's commit.
+fn shown_hard(kept: Option<HardState>, committed: u64) -> HardState
+    ensures { hard_state_of result ≡ shown_hard (maybe_hard_state_of kept) committed }
 {
     match kept {
-        None => out.put(b"0 - 0\n"),
-        Some(hard_state) => out.put_hard_state(hard_state),
+        None => HardState {
+            current_term: 0,
+            voted_for: None,
+            commit: committed,
+        },
+        Some(hard_state) => HardState {
+            commit: hard_state.commit.max(committed),
+            ..hard_state
+        },
     }
 }
 
-// A replica's line: group, replica, boundary index and term, and the hard state's current term, vote and commit.
+// A replica's line: group, replica, boundary index and term, current term, vote and commit.
 fn put_replica(out: &mut Output<65536>, h: Header)
     requires { length out.old + 147 ≤ 65536 }
     ensures text { out.new ≡ out.old ++ head_line h }
@@ -39,7 +44,7 @@ fn put_replica(out: &mut Output<65536>, h: Header)
     out.put_identity(h.identity);
     out.put_number(h.snapshot_index, b' ');
     out.put_number(h.snapshot_term, b' ');
-    put_maybe_hard_state(out, h.hard_state);
+    out.put_hard_state(shown_hard(h.hard_state, h.committed_index));
 }
 
 // An entry's line: group, replica, index, term, LSN.

@@ -1,7 +1,7 @@
 // The output of a program: bytes of text, one behind the other.
 ghost use Rattle.std.specs.Prelude.{◌≡◌, List, ℕ, [], ◌∷◌, ◌++◌, ◌+◌, ◌-◌, ◌≤◌, take, length, Some};
 ghost use Rattle.ids.specs.Identity.{identity_of};
-ghost use Rattle.codec.specs.Records.{vote_of, maybe_hard_state_of};
+ghost use Rattle.codec.specs.Records.{vote_of, hard_state_of};
 ghost use Rattle.tables.specs.Tables.{decimal, row, vote_field, hard_fields};
 
 use codec::HardState;
@@ -101,7 +101,7 @@ impl<const N: usize> Output<N> {
     #[tactic(auto, unfolding(crate::specs::Tables::row))]
     pub fn put_hard_state(&mut self, hard_state: HardState)
         requires { length self.old + 63 ≤ N }
-        ensures text { self.new ≡ self.old ++ row (hard_fields (maybe_hard_state_of (Some hard_state))) }
+        ensures text { self.new ≡ self.old ++ row (hard_fields (hard_state_of hard_state)) }
         ensures short { length self.new ≤ length self.old + 63 }
     {
         self.put_number(hard_state.current_term, b' ');
