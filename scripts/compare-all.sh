@@ -1,6 +1,7 @@
 #!/usr/bin/env bash
 # compare-all.sh [N [SEED...]]: runs recover, steps, batch and checks beside the Rust original on N generated inputs of each kind from each
 # seed (5,000 from 1, 2 and 3 if not given), by the oracle's compare.sh, and prints its `same X of X` for each. Run after rt ci.
+# scripts/requests.txt has the requests of document 02 that change an answer; the oracle follows them, by the original's own state.
 #   ORACLE       the oracle's folder (default: ../shared/oracle)
 #   ORACLE_WORK  a folder to build and write in (default: a new one)
 #   PROGRAMS     which programs (default: all four)
@@ -13,6 +14,8 @@ oracle=${ORACLE:-../shared/oracle}
 [ -f "$oracle/compare.sh" ] || absent "no oracle at $oracle"
 command -v cargo >/dev/null || [ -x "$HOME/.cargo/bin/cargo" ] || absent "no cargo"
 work=${ORACLE_WORK:-$(mktemp -d)}
+REQUESTS=$(cat scripts/requests.txt)
+export REQUESTS
 number=${1:-5000}
 [ $# -eq 0 ] || shift
 [ $# -gt 0 ] || set -- 1 2 3

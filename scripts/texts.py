@@ -9,6 +9,9 @@ of tests/recover/long.sh are made there; here they get their answers, in tests/r
 """
 import os, re, subprocess, sys
 
+# The original's answers follow those requests of document 02 that change one (scripts/requests.txt).
+os.environ['REQUESTS'] = open(os.path.join(os.path.dirname(os.path.abspath(__file__)), 'requests.txt')).read()
+
 SUM = '00000000000000010000000000000002000000000000000300000000000000ff'
 ENTRY = 'E 5 1 1 1 1 1 N 1'.split()
 CHANGE = 'E 5 1 1 1 1 1 A 1 2'.split()
