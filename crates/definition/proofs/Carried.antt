@@ -14,7 +14,7 @@ use Rattle.definition.specs.Records.{Identity, same, Kind, form_rows, Content, c
 use Rattle.definition.specs.Log.{Log, empty, rows, accept, normalize_hard_state_term}
 use Rattle.definition.specs.Recovery.{lookup, Out, too_many_replicas, judged, settled, admitted, visit, State, fresh_state, sound_state, scan, routed, guarded, unsound_state, non_increasing_wal_lsn, observe_state, normalized, normalized_state, finish_state, is_accepted, Recovery, fresh, observed, answers, finish, state_answers, state_after}
 use Rattle.definition.specs.Two.{replicas_left}
-use Rattle.definition.specs.Healthy.{Accepted}
+use Rattle.definition.specs.Healthy.{Accepted, EachReplica}
 use Rattle.definition.proofs.Laws.{none_some, Clear, clear, clear_l}
 use Rattle.definition.proofs.Order.{same_eq, updated, lookup_keep, lookup_map}
 use Rattle.definition.proofs.Never.{answer_to_accepted}
@@ -37,7 +37,7 @@ module _ (all : List Record) (P : Identity → Log ℕ → Type 0) where
         → P i (accept k lsn log)
     pub finishing : (i : Identity) (log : Log ℕ) → P i log → P i (normalize_hard_state_term log)
 
-  -- Of what is held, if it is.
+  -- P of what is held, where something is.
   abbrev IfHeld : Identity → Option (Log ℕ) → Type 0
   IfHeld i None = Unit {0}
   IfHeld i (Some log) = P i log
@@ -159,8 +159,9 @@ module _ (all : List Record) (P : Identity → Log ℕ → Type 0) where
         ap (λ (w : Recovery). (finish w).next.state.replicas) (observed_fresh all)
         ∙ ap (λ (o : Out Recovery). o.next.state.replicas) (finish_laid (state_after fresh_state all))
 
-    pub carried_observed : (i : Identity) (log : Log ℕ) → lookup i (observed fresh all).state.replicas ≡ Some log → P i log
-    carried_observed i log e = held_is i (lookup i end.replicas) log (end_carried i) (sym (ap (λ (s : State). lookup i s.replicas) observed_is) ∙ e)
-
-    pub carried_finished : (i : Identity) (log : Log ℕ) → lookup i (replicas_left all) ≡ Some log → P i log
-    carried_finished i log e = held_is i (lookup i (finish_state end).next.replicas) log (finished_carried i) (sym (ap (lookup i) left_is) ∙ e)
+    pub carried : EachReplica all P
+    carried =
+        record {
+          after_the_last = λ i log e. held_is i (lookup i end.replicas) log (end_carried i) (sym (ap (λ (s : State). lookup i s.replicas) observed_is) ∙ e);
+          after_finishing = λ i log e. held_is i (lookup i (finish_state end).next.replicas) log (finished_carried i) (sym (ap (lookup i) left_is) ∙ e);
+        }

@@ -1,15 +1,14 @@
 -- On what a list of records leaves, the larger of a replica's two commits is the view's (document 02, Q-3).
 -- Assumes nothing.
 use Prim.Native.Nat.{ℕ, ◌≤◌, max}
-use mathlib.Core.List.{List}
 use native.Mathlib.Omega.{arith}
 use Rattle.std.specs.Prelude.{Option, None, Some}
 use Rattle.definition.specs.Table.{◌=?◌, ◌<?◌, ◌≤?◌}
-use Rattle.definition.specs.Records.{HardState, Pointer, Kind, entry, hard_state, pointer, Record}
+use Rattle.definition.specs.Records.{HardState, Pointer, Kind, entry, hard_state, pointer}
 use Rattle.definition.specs.Log.{Log, empty, raised_by, with_entry, with_hard_state, with_pointer, accept, maximum_observed_term, normalized_to, normalized_hard_state, with_hard, normalize_hard_state_term}
 use Rattle.definition.specs.Commits.{CommitWithin, WithinView, ViewsIsLarger}
 use Rattle.definition.proofs.Laws.{if_both}
-use Rattle.definition.proofs.Carried.{Carries, carried_observed, carried_finished}
+use Rattle.definition.proofs.Carried.{carried}
 
 raised_within : (p : Pointer) (c : ℕ) (o : Option HardState) → CommitWithin c o → (raised_by p o).commit ≤ max c p.last_included_index
 unfolding raised_by
@@ -34,18 +33,12 @@ normalize_within_view log u =
     if_both (λ o. CommitWithin log.committed_index o) (maximum_observed_term log =? 0) _ _ u
     (normalized_within (maximum_observed_term log) log.committed_index log.hard_state u)
 
-carries_within_view : (rs : List Record) → Carries rs (λ i log. WithinView log)
+pub views_is_larger : ViewsIsLarger
 unfolding empty
-carries_within_view rs =
-    record {
+views_is_larger rs =
+    carried rs (λ i log. WithinView log)
+    (record {
       of_empty = λ i. tt;
       accepting = λ i k lsn log a f r u. accept_within_view k lsn log u;
       finishing = λ i log u. normalize_within_view log u;
-    }
-
-pub views_is_larger : ViewsIsLarger
-views_is_larger =
-    record {
-      after_the_last = λ rs. carried_observed rs (λ i log. WithinView log) (carries_within_view rs);
-      after_finishing = λ rs. carried_finished rs (λ i log. WithinView log) (carries_within_view rs);
-    }
+    })

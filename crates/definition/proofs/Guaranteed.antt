@@ -14,10 +14,10 @@ use Rattle.definition.specs.Table.{every, u64_max}
 use Rattle.definition.specs.Records.{Identity, Kind, entry, hard_state, pointer, form_rows, Content, content, Record}
 use Rattle.definition.specs.Log.{Entry, Log, empty, base, count, snapshot_boundary, last_index, last, place, same_term, rows, placed, with_entry, with_hard_state, with_pointer, accept, normalize_hard_state_term, with_hard}
 use Rattle.definition.specs.Two.{fits_kind, fits_content, fits}
-use Rattle.definition.specs.Healthy.{low_kind, low_content, low_pointer, Accepted, Brought, Guaranteed, Guarantee}
+use Rattle.definition.specs.Healthy.{low_kind, low_content, low_pointer, Accepted, Brought, Guaranteed, EachReplica, Guarantee}
 use Rattle.definition.proofs.Laws.{every_nth, none_some, Clear}
 use Rattle.definition.proofs.SoundLog.{normalize_sound}
-use Rattle.definition.proofs.Carried.{Carries, carried_observed, carried_finished}
+use Rattle.definition.proofs.Carried.{Carries, carried}
 use Rattle.definition.proofs.Healthy.{Fit, fit_healthy, empty_fit, accept_fit, entry_at, pointer_at}
 
 -- What stands at a place of a list after a change.
@@ -138,12 +138,12 @@ module _ (all : List Record) (m : every fits all ≡ true) (l : every low_pointe
         finishing = λ i log g. normalize_good (Brought all i) log g;
       }
 
-  guaranteed : (i : Identity) (log : Log ℕ) → GoodOf i log → Guaranteed all i log
-  guaranteed i log g = record { healthy = fit_healthy log g.fit; brought = g.comes }
+  guaranteed : EachReplica all GoodOf → EachReplica all (Guaranteed all)
+  guaranteed c =
+      record { after_the_last = λ i log e. holds log (c.after_the_last i log e); after_finishing = λ i log e. holds log (c.after_finishing i log e) }
+    where
+      holds : {i : Identity} (log : Log ℕ) → GoodOf i log → Guaranteed all i log
+      holds log g = record { healthy = fit_healthy log g.fit; brought = g.comes }
 
 pub guarantee : Guarantee
-guarantee =
-    record {
-      after_the_last = λ rs m l i log e. guaranteed rs m l i log (carried_observed rs (GoodOf rs m l) (carries_good rs m l) i log e);
-      after_finishing = λ rs m l i log e. guaranteed rs m l i log (carried_finished rs (GoodOf rs m l) (carries_good rs m l) i log e);
-    }
+guarantee rs m l = guaranteed rs m l (carried rs (GoodOf rs m l) (carries_good rs m l))

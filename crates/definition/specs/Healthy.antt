@@ -55,12 +55,12 @@ pub record Guaranteed (rs : List Record) (i : Identity) (log : Log ℕ) : Type 0
   pub healthy : Healthy log
   pub brought : (q : ℕ) (e : Entry ℕ) → slice_get log.entries q ≡ Some e → Brought rs i (log.snapshot_index + 1 + q) e
 
--- "for a recovery from empty in which all records were accepted": after the last record, and after finishing. The records are
--- machines' (`fits`). That all were accepted is not asked: what a refused record leaves is as healthy.
-pub record Guarantee : Type 0 where
-  pub after_the_last :
-      (rs : List Record) → every fits rs ≡ true → every low_pointer rs ≡ true → (i : Identity) (log : Log ℕ)
-      → lookup i (observed fresh rs).state.replicas ≡ Some log → Guaranteed rs i log
-  pub after_finishing :
-      (rs : List Record) → every fits rs ≡ true → every low_pointer rs ≡ true → (i : Identity) (log : Log ℕ)
-      → lookup i (replicas_left rs) ≡ Some log → Guaranteed rs i log
+-- Each replica of a recovery from empty has a log of which P holds: after the last record, and after finishing.
+pub record EachReplica (rs : List Record) (P : Identity → Log ℕ → Type 0) : Type 0 where
+  pub after_the_last : (i : Identity) (log : Log ℕ) → lookup i (observed fresh rs).state.replicas ≡ Some log → P i log
+  pub after_finishing : (i : Identity) (log : Log ℕ) → lookup i (replicas_left rs) ≡ Some log → P i log
+
+-- "for a recovery from empty in which all records were accepted". The records are machines' (`fits`). That all were accepted is not
+-- asked: what a refused record leaves is as healthy.
+abbrev pub Guarantee : Type 0
+Guarantee = (rs : List Record) → every fits rs ≡ true → every low_pointer rs ≡ true → EachReplica rs (Guaranteed rs)

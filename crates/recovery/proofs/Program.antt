@@ -1,5 +1,5 @@
--- What the contracts promise of a run of calls is the definition's run; so the claim on two recoveries and the guarantee (document 02,
--- Q-2) speak of the program.
+-- What the contracts promise of a run of calls is the definition's run; so the claim on two recoveries, the guarantee (document 02,
+-- Q-2) and what is said of the two commits (Q-3) speak of the program.
 -- Assumes nothing.
 use Rattle.std.specs.Prelude.{Option, None, Some, Ok}
 use mathlib.Core.Path.{◌≡◌, refl, sym, ap, subst, ◌∙◌}
@@ -9,14 +9,17 @@ use Prim.Native.Nat.{ℕ, ◌+◌, ◌<◌, ◌≤◌}
 use native.Mathlib.Omega.{arith}
 use lib.ListN.{length, take, length-append}
 use Rattle.definition.specs.Table.{first_of, u64_max}
-use Rattle.definition.specs.Records.{Record, Content, content}
+use Rattle.definition.specs.Records.{Identity, Record, Content, content}
 use Rattle.definition.specs.Log as D
 use Rattle.definition.specs.Recovery.{Out, out, State, Recovery, Chunk, lookup, fresh, unsound_state, unsound_store, non_increasing_wal_lsn, routed, guarded, observe_state, stored, with_store, observe, finish, answers, observed}
 use Rattle.definition.specs.Two.{Agreement, bare, replicas_left, store_left}
+use Rattle.definition.specs.Healthy.{Guaranteed, EachReplica}
+use Rattle.definition.specs.Commits.{WithinView}
 use Rattle.definition.proofs.Sound.{routed_scanned}
 use Rattle.definition.proofs.Chunk.{spent, cut, answers_append, observed_append}
 use Rattle.definition.proofs.Final.{two_recoveries}
 use Rattle.definition.proofs.Guaranteed.{guarantee}
+use Rattle.definition.proofs.Commits.{views_is_larger}
 use Rattle.store.specs.Zeros.{zeros}
 use Rattle.codec.specs.Records.{record_of}
 use Rattle.replay.specs.Plan.{answer_of}
@@ -28,7 +31,7 @@ use Rattle.soundness.proofs.Fresh.{fresh_recovery, fresh_test}
 use Rattle.finishing.specs.declared.Finished.{Finished}
 use Rattle.finishing.specs.Finishes.{finished_done, unsound_done}
 use Rattle.routing.specs.Observe.{journal_of}
-use Rattle.recovery.specs.Program.{Call, one, chunk, Kept, chunk_records, records_of, answers_of, state_after_calls, store_after_calls, Recovers, ProgramAgrees, ProgramGuarantees}
+use Rattle.recovery.specs.Program.{Call, one, chunk, Kept, chunk_records, records_of, answers_of, state_after_calls, store_after_calls, Recovers, ProgramAgrees, EachOfRun, ProgramGuarantees, ProgramViewsIsLarger}
 
 -- A record is counted once at most.
 abbrev scanned : Recovery → ℕ
@@ -131,6 +134,14 @@ module _ (cs : List Call) (d : Finished) (k : Recovers cs d) (few : length (reco
   unfolding replicas_left
   replicas_are = ap (λ (o : Out Recovery). o.next.state.replicas) done
 
+  -- What holds of each replica of the records' recovery holds of the run's.
+  each_of_run : (P : Identity → D.Log ℕ → Type 0) → EachReplica (records_of cs) P → EachOfRun cs d P
+  each_of_run P h =
+      record {
+        after_the_last = λ i log e. h.after_the_last i log (ap (λ (w : Recovery). lookup i w.state.replicas) observed_is ∙ e);
+        after_finishing = λ i log e. h.after_finishing i log (ap (lookup i) replicas_are ∙ e);
+      }
+
   store_is : store_left (records_of cs) ≡ st
   unfolding store_left
   store_is = ap (λ (o : Out Recovery). o.next.store) done
@@ -147,9 +158,7 @@ program_agrees A B d e r a b =
     }
 
 pub program_guarantees : ProgramGuarantees
-program_guarantees cs d few m l k =
-    record {
-      after_the_last = λ i log e.
-          guarantee.after_the_last (records_of cs) m l i log (ap (λ (w : Recovery). lookup i w.state.replicas) (observed_is cs d k few) ∙ e);
-      after_finishing = λ i log e. guarantee.after_finishing (records_of cs) m l i log (ap (lookup i) (replicas_are cs d k few) ∙ e);
-    }
+program_guarantees cs d few m l k = each_of_run cs d k few (Guaranteed (records_of cs)) (guarantee (records_of cs) m l)
+
+pub program_views_is_larger : ProgramViewsIsLarger
+program_views_is_larger cs d few k = each_of_run cs d k few (λ i log. WithinView log) (views_is_larger (records_of cs))

@@ -7,6 +7,7 @@ use Rattle.definition.specs.Log as D
 use Rattle.definition.specs.Recovery.{lookup, answers}
 use Rattle.definition.specs.Two.{fits, Recoveries, bare, pick, is_of}
 use Rattle.definition.specs.Healthy.{low_pointer, Guaranteed}
+use Rattle.definition.specs.Commits.{WithinView}
 use Rattle.definition.proofs.Chunk.{spent}
 use Rattle.store.specs.Zeros.{zeros}
 use Rattle.codec.specs.declared.WalRecord.{WalRecord}
@@ -77,15 +78,18 @@ pub record Agrees (A B : List Call) (d e : Finished) : Type 0 where
 abbrev pub ProgramAgrees : Type 0
 ProgramAgrees = (A B : List Call) (d e : Finished) → Recoveries (records_of A) (records_of B) → Recovers A d → Recovers B e → Agrees A B d e
 
--- What any healthy journal guarantees (document 02, Q-2), of a run of the program: after the last call, and after finishing.
-pub record GuaranteedRun (cs : List Call) (d : Finished) : Type 0 where
+-- Each replica of a run has a log of which P holds: after the last call, and after finishing.
+pub record EachOfRun (cs : List Call) (d : Finished) (P : Identity → D.Log ℕ → Type 0) : Type 0 where
   pub after_the_last :
-      (i : Identity) (log : D.Log ℕ)
-      → lookup i (meaning (state_after_calls fresh_storage cs) (store_after_calls (zeros 32768) cs)).replicas ≡ Some log → Guaranteed (records_of cs) i log
-  pub after_finishing :
-      (i : Identity) (log : D.Log ℕ) → lookup i (meaning d.state (store_after_calls (zeros 32768) cs)).replicas ≡ Some log → Guaranteed (records_of cs) i log
+      (i : Identity) (log : D.Log ℕ) → lookup i (meaning (state_after_calls fresh_storage cs) (store_after_calls (zeros 32768) cs)).replicas ≡ Some log → P i log
+  pub after_finishing : (i : Identity) (log : D.Log ℕ) → lookup i (meaning d.state (store_after_calls (zeros 32768) cs)).replicas ≡ Some log → P i log
 
+-- What any healthy journal guarantees (document 02, Q-2), of a run of the program.
 abbrev pub ProgramGuarantees : Type 0
 ProgramGuarantees =
     (cs : List Call) (d : Finished) → length (records_of cs) < u64_max → every fits (records_of cs) ≡ true → every low_pointer (records_of cs) ≡ true
-    → Recovers cs d → GuaranteedRun cs d
+    → Recovers cs d → EachOfRun cs d (Guaranteed (records_of cs))
+
+-- Of the two commits the view's is the larger (document 02, Q-3), in any run of the program.
+abbrev pub ProgramViewsIsLarger : Type 0
+ProgramViewsIsLarger = (cs : List Call) (d : Finished) → length (records_of cs) < u64_max → Recovers cs d → EachOfRun cs d (λ i log. WithinView log)
