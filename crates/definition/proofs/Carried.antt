@@ -14,7 +14,7 @@ use Rattle.definition.specs.Records.{Identity, same, Kind, form_rows, Content, c
 use Rattle.definition.specs.Log.{Log, empty, rows, accept, normalize_hard_state_term}
 use Rattle.definition.specs.Recovery.{lookup, Out, too_many_replicas, judged, settled, admitted, visit, State, fresh_state, sound_state, scan, routed, guarded, unsound_state, non_increasing_wal_lsn, observe_state, normalized, normalized_state, finish_state, is_accepted, Recovery, fresh, observed, answers, finish, state_answers, state_after}
 use Rattle.definition.specs.Two.{replicas_left}
-use Rattle.definition.specs.Healthy.{Accepted, EachReplica}
+use Rattle.definition.specs.Healthy.{AcceptedRecord, EachReplica}
 use Rattle.definition.proofs.Laws.{none_some, Clear, clear, clear_l}
 use Rattle.definition.proofs.Order.{same_eq, updated, lookup_keep, lookup_map}
 use Rattle.definition.proofs.Never.{answer_to_accepted}
@@ -33,7 +33,7 @@ module _ (all : List Record) (P : Identity → Log ℕ → Type 0) where
   pub record Carries : Type 0 where
     pub of_empty : (i : Identity) → P i empty
     pub accepting :
-        (i : Identity) (k : Kind) (lsn : ℕ) (log : Log ℕ) → Accepted all i k lsn → Clear (form_rows i k) → Clear (rows i k log) → P i log
+        (i : Identity) (k : Kind) (lsn : ℕ) (log : Log ℕ) → AcceptedRecord all i k lsn → Clear (form_rows i k) → Clear (rows i k log) → P i log
         → P i (accept k lsn log)
     pub finishing : (i : Identity) (log : Log ℕ) → P i log → P i (normalize_hard_state_term log)
 
@@ -53,7 +53,7 @@ module _ (all : List Record) (P : Identity → Log ℕ → Type 0) where
     -- A record at its replica, accepted or not.
     module _ (i : Identity) (k : Kind) (lsn : ℕ) where
       abbrev AcceptedBy : Out (Option (Log ℕ)) → Type 0
-      AcceptedBy o = is_accepted o.answer ≡ true → Accepted all i k lsn
+      AcceptedBy o = is_accepted o.answer ≡ true → AcceptedRecord all i k lsn
 
       judged_carried : (o : Option ℕ) (was : Option (Log ℕ)) (log : Log ℕ) → first_of (rows i k log) ≡ o → Clear (form_rows i k) → P i log
           → AcceptedBy (judged o k lsn log) → IfHeld i (updated was (judged o k lsn log).next)
@@ -77,7 +77,7 @@ module _ (all : List Record) (P : Identity → Log ℕ → Type 0) where
     -- What an accepted record of the list is.
     abbrev AcceptedIn : Content → ℕ → Type 0
     AcceptedIn None lsn = Unit {0}
-    AcceptedIn (Some (i, k)) lsn = Accepted all i k lsn
+    AcceptedIn (Some (i, k)) lsn = AcceptedRecord all i k lsn
 
     nth_accepted : (n : ℕ) (r : Record) (x : Content) → slice_get all n ≡ Some r
         → option_map is_accepted (slice_get (answers fresh all) n) ≡ Some true → content r ≡ x → AcceptedIn x r.lsn

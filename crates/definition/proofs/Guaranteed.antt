@@ -14,7 +14,7 @@ use Rattle.definition.specs.Table.{every, u64_max}
 use Rattle.definition.specs.Records.{Identity, Kind, entry, hard_state, pointer, form_rows, Content, content, Record}
 use Rattle.definition.specs.Log.{Entry, Log, empty, base, count, snapshot_boundary, last_index, last, place, same_term, rows, placed, with_entry, with_hard_state, with_pointer, accept, normalize_hard_state_term, with_hard}
 use Rattle.definition.specs.Two.{fits_kind, fits_content, fits}
-use Rattle.definition.specs.Healthy.{low_kind, low_content, low_pointer, Accepted, Brought, Guaranteed, EachReplica, Guarantee}
+use Rattle.definition.specs.Healthy.{low_kind, low_content, low_pointer, AcceptedRecord, Brought, Guaranteed, EachReplica, Guarantee}
 use Rattle.definition.proofs.Laws.{every_nth, none_some, Clear}
 use Rattle.definition.proofs.SoundLog.{normalize_sound}
 use Rattle.definition.proofs.Carried.{Carries, carried}
@@ -119,13 +119,13 @@ module _ (all : List Record) (m : every fits all ≡ true) (l : every low_pointe
   abbrev GoodOf : Identity → Log ℕ → Type 0
   GoodOf i log = Good (Brought all i) log
 
-  brings : (i : Identity) (k : Kind) (lsn : ℕ) → Accepted all i k lsn → Brings (Brought all i) k lsn
+  brings : (i : Identity) (k : Kind) (lsn : ℕ) → AcceptedRecord all i k lsn → Brings (Brought all i) k lsn
   brings i (entry version e) lsn a = record { version = version; by = a }
   brings i (hard_state version h) lsn a = tt
   brings i (pointer p) lsn a = tt
 
   -- What is said of each of the list: it is a machine's, and its pointer low.
-  of_list : (p : Content → Bool) → every (λ r. p (content r)) all ≡ true → (i : Identity) (k : Kind) (lsn : ℕ) → Accepted all i k lsn
+  of_list : (p : Content → Bool) → every (λ r. p (content r)) all ≡ true → (i : Identity) (k : Kind) (lsn : ℕ) → AcceptedRecord all i k lsn
       → p (Some (i, k)) ≡ true
   of_list p e i k lsn a = ap p (sym a.says) ∙ every_nth (λ r. p (content r)) all a.n a.by a.nth e
 

@@ -15,6 +15,6 @@ CommitWithin c (Some h) = h.commit ≤ c
 abbrev pub WithinView : Log ℕ → Type 0
 WithinView log = CommitWithin log.committed_index log.hard_state
 
--- Whatever was refused on the way.
+-- From empty, whatever was refused on the way.
 abbrev pub ViewsIsLarger : Type 0
 ViewsIsLarger = (rs : List Record) → EachReplica rs (λ i log. WithinView log)

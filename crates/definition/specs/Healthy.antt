@@ -37,7 +37,7 @@ module _ {T : Type 0} where
     pub committed : log.committed_index ≤ last log
 
 -- A record of a list from empty that was accepted: the nth, which says k of the replica i under an LSN.
-pub record Accepted (rs : List Record) (i : Identity) (k : Kind) (lsn : ℕ) : Type 0 where
+pub record AcceptedRecord (rs : List Record) (i : Identity) (k : Kind) (lsn : ℕ) : Type 0 where
   pub n : ℕ
   pub by : Record
   pub nth : slice_get rs n ≡ Some by
@@ -48,7 +48,7 @@ pub record Accepted (rs : List Record) (i : Identity) (k : Kind) (lsn : ℕ) : T
 -- An entry is the one that an accepted record of its replica and index brought.
 pub record Brought (rs : List Record) (i : Identity) (index : ℕ) (e : Entry ℕ) : Type 0 where
   pub version : ℕ
-  pub by : Accepted rs i (entry version (record { index = index; term = e.term; payload = e.payload })) e.lsn
+  pub by : AcceptedRecord rs i (entry version (record { index = index; term = e.term; payload = e.payload })) e.lsn
 
 -- What is guaranteed of a replica.
 pub record Guaranteed (rs : List Record) (i : Identity) (log : Log ℕ) : Type 0 where
