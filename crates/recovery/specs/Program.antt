@@ -90,6 +90,6 @@ ProgramGuarantees =
     (cs : List Call) (d : Finished) → length (records_of cs) < u64_max → every fits (records_of cs) ≡ true → every low_pointer (records_of cs) ≡ true
     → Recovers cs d → EachOfRun cs d (Guaranteed (records_of cs))
 
--- Of the two commits the view's is the larger (document 02, Q-3), in any run of the program.
+-- Of a replica's two commits the view's is the larger (document 02, Q-3), of a run of the program.
 abbrev pub ProgramViewsIsLarger : Type 0
 ProgramViewsIsLarger = (cs : List Call) (d : Finished) → length (records_of cs) < u64_max → Recovers cs d → EachOfRun cs d (λ i log. WithinView log)
