@@ -12,14 +12,14 @@ use Rattle.std.specs.Prelude.{if◌then◌else◌, not, Option, None, Some, opti
 use Rattle.definition.specs.Table.{◌≤?◌, first_of, is_some}
 use Rattle.definition.specs.Records.{Identity, same, Kind, form_rows, Content, content, Record}
 use Rattle.definition.specs.Log.{Log, empty, rows, accept, normalize_hard_state_term}
-use Rattle.definition.specs.Recovery.{lookup, Out, too_many_replicas, judged, settled, admitted, visit, State, fresh_state, sound_state, scan, routed, guarded, unsound_state, non_increasing_wal_lsn, observe_state, normalized, normalized_state, finish_state, is_accepted, Recovery, fresh, observed, answers, finish, state_answers, state_after}
+use Rattle.definition.specs.Recovery.{lookup, Out, too_many_replicas, judged, settled, admitted, visit, State, fresh_state, sound_state, scan, routed, guarded, unsound_state, non_increasing_wal_lsn, observe_state, normalized, normalized_state, finish_state, is_accepted, Recovery, fresh, answers, finish, state_answers, state_after}
 use Rattle.definition.specs.Two.{replicas_left}
 use Rattle.definition.specs.Healthy.{AcceptedRecord, EachReplica}
 use Rattle.definition.proofs.Laws.{none_some, Clear, clear, clear_l}
 use Rattle.definition.proofs.Order.{same_eq, updated, lookup_keep, lookup_map}
 use Rattle.definition.proofs.Never.{answer_to_accepted}
 use Rattle.definition.proofs.Sound.{finish_is, finish_stays}
-use Rattle.definition.proofs.Store.{laid, answers_fresh, observed_fresh, finish_laid}
+use Rattle.definition.proofs.Store.{laid, answers_fresh, observed_fresh, observed_state, finish_laid}
 
 -- m is what is left of l from the place n on.
 module _ {A : Type 0} where
@@ -149,10 +149,6 @@ module _ (all : List Record) (P : Identity → Log ℕ → Type 0) where
             (mapped (lookup i end.replicas) (end_carried i))
         go false e = subst (λ (o : Out State). IfHeld i (lookup i o.next.replicas)) (sym (finish_stays end e)) (end_carried i)
 
-    observed_is : (observed fresh all).state ≡ end
-    unfolding laid end
-    observed_is = ap (λ (w : Recovery). w.state) (observed_fresh all)
-
     left_is : replicas_left all ≡ (finish_state end).next.replicas
     unfolding replicas_left laid end
     left_is =
@@ -160,8 +156,9 @@ module _ (all : List Record) (P : Identity → Log ℕ → Type 0) where
         ∙ ap (λ (o : Out Recovery). o.next.state.replicas) (finish_laid (state_after fresh_state all))
 
     pub carried : EachReplica all P
+    unfolding end
     carried =
         record {
-          after_the_last = λ i log e. held_is i (lookup i end.replicas) log (end_carried i) (sym (ap (λ (s : State). lookup i s.replicas) observed_is) ∙ e);
+          after_the_last = λ i log e. held_is i (lookup i end.replicas) log (end_carried i) (sym (ap (λ (s : State). lookup i s.replicas) (observed_state all)) ∙ e);
           after_finishing = λ i log e. held_is i (lookup i (finish_state end).next.replicas) log (finished_carried i) (sym (ap (lookup i) left_is) ∙ e);
         }

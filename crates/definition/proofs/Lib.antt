@@ -1,5 +1,6 @@
 pub mod Laws
 pub mod Natural
+pub mod Alike
 pub mod Order
 pub mod Local
 pub mod Never
@@ -8,7 +9,10 @@ pub mod Places
 pub mod SoundLog
 pub mod Apart
 pub mod Sound
+pub mod Taken
 pub mod Store
+pub mod Prepared
+pub mod ReadBack
 pub mod Rising
 pub mod Final
 pub mod Replayed

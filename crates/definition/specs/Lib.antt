@@ -9,4 +9,5 @@ pub mod Chaining
 pub mod Healthy
 pub mod Commits
 pub mod Retired
+pub mod ReadBack
 pub mod Cases
