@@ -21,7 +21,7 @@ use Rattle.definition.proofs.SoundLog.{truncated_is}
 use Rattle.definition.proofs.Alike.{stripped, Alike, entry_hardless, pointer_hardless, rows_alike, accept_alike, same_entries, commit_alike, last_alike}
 use Rattle.definition.proofs.Sound.{replica_sound, state_steady, fresh_sound, sound_while_counted}
 use Rattle.definition.proofs.Store.{laid, is_laid, state_sound, observed_laid, answers_laid, finish_whole, finish_sound, laid_sound, observed_fresh, observed_state}
-use Rattle.definition.proofs.Taken.{onward, fold_log, Taken, AllTaken, Took, took}
+use Rattle.definition.proofs.Taken.{onward, fold_log, Taken, AllTaken, room_for, Took, took}
 use Rattle.definition.proofs.Prepared.{passed, pointer_records, entry_records, hard_state_records, later_records, batch_records, concluded_is, Passed, take_apart, few_records, prepare_sound}
 
 -- A journal says, in order, what the first of the prepared records say.
@@ -237,6 +237,17 @@ module _ (w : Recovery) (e : sound w ≡ true) (i : Identity) (b : Batch) (end :
   answers_are : answers w ws ≡ state_answers w.state ws
   answers_are = ap (λ (x : Recovery). answers x ws) (is_laid w e) ∙ answers_laid w.state ws
 
+  -- Its commit is not below the view's, there is room for the replica, and for as many records as a batch has.
+  commits_enough : (was : Log ℕ) → Alike was (replica_of i w.state) → commits_less b was ≡ false
+  commits_enough was a =
+      ap (λ (n : ℕ). if_some (λ (h : HardState). h.commit <? n) b.hard_state) (commit_alike was (replica_of i w.state) a) ∙ c.commit
+
+  room : room_for i w.state ≡ true
+  room = c.room
+
+  counted : (n : ℕ) → n ≤ 34 → w.state.scanned_records + n ≤ u64_max
+  counted n h = omega (arith, c.counts)
+
   back : (was : Log ℕ) → PreparedOn was → ReadsBack w i b end k ws
   unfolding batch_rows
   back was o =
@@ -253,12 +264,10 @@ module _ (w : Recovery) (e : sound w ≡ true) (i : Identity) (b : Batch) (end :
       apart : Passed i b was end
       apart = take_apart i b was end o.comes
 
-      less : commits_less b was ≡ false
-      less = ap (λ (n : ℕ). if_some (λ (h : HardState). h.commit <? n) b.hard_state) (commit_alike was (replica_of i w.state) o.alike) ∙ c.commit
-
       x : End i b was end (replica_of i w.state) p ws
       x =
-          pointed_end i b was end apart.whole.0 apart.whole.1.0 (replica_of i w.state) o.alike o.tied less o.follows b.snapshot refl apart.begin apart.on_was apart.goes ws
+          pointed_end i b was end apart.whole.0 apart.whole.1.0 (replica_of i w.state) o.alike o.tied (commits_enough was o.alike) o.follows b.snapshot refl
+          apart.begin apart.on_was apart.goes ws
           (subst (Begins ws) apart.records (begins ws k end.records c.first_k))
 
       count : length ws ≡ min k (length p)
@@ -266,8 +275,8 @@ module _ (w : Recovery) (e : sound w ≡ true) (i : Identity) (b : Batch) (end :
 
       t : Took w.state i ws
       t =
-          took w.state i ws (state_steady w.state (state_sound w e)) (omega (arith, c.counts, count, few_records i b was apart.whole)) c.rising c.machine c.room
-          x.taken
+          took w.state i ws (state_steady w.state (state_sound w e)) (counted (length ws) (omega (arith, count, few_records i b was apart.whole))) c.rising
+          c.machine room x.taken
 
       all : length end.records ≤ k → Whole i b was end end (fold_log (replica_of i w.state) ws)
       all n = x.whole (omega (arith, n, count, ap length apart.records))
