@@ -4,12 +4,15 @@ use Rattle.std.specs.Prelude.{Option, None, Some, Result, Ok, Err}
 use mathlib.Core.Path.{◌≡◌, refl, sym, ap, subst, ◌∙◌}
 use mathlib.Core.Bool.{false, true≢false}
 use mathlib.Core.Logic.{inl, inr}
-use mathlib.Core.List.{List, [], ◌∷◌, ◌++◌, map-append}
+use mathlib.Core.List.{List, [], ◌∷◌, ◌++◌, append_assoc, map-append}
 use Prim.Native.Nat.{ℕ}
 use Rattle.definition.specs.Records as D
+use Rattle.definition.specs.Log.{Log}
 use Rattle.definition.specs.Recovery.{replica_of}
 use Rattle.definition.specs.Batch as M
 use Rattle.definition.proofs.Laws.{none_some}
+use Rattle.definition.proofs.Prepared as R
+use Rattle.definition.proofs.Prepared.{prepare_sound, prepare_unsound}
 use Rattle.ids.specs.declared.RaftReplicaIdentity.{RaftReplicaIdentity}
 use Rattle.ids.specs.declared.Refusal.{Refusal}
 use Rattle.ids.specs.declared.Refusal.TheVariants as W
@@ -33,16 +36,15 @@ use Rattle.batches.specs.declared.RaftPersistenceBatch.{RaftPersistenceBatch}
 use Rattle.batches.specs.Meaning.{entries_of, batch_of}
 use Rattle.persistence.specs.declared.TriedBatch.{TriedBatch}
 use Rattle.preview.specs.Preview.{Ran}
-use Rattle.preview.specs.Extends.{records_of}
-use Rattle.persistence.specs.Prepares as R
+use Rattle.persistence.specs.Prepares.{Prepares}
 use Rattle.persistence.specs.Tries.{ran_of, tried_on, TriedReached}
 use Rattle.persistence.specs.Answer.{pointer_records, hard_state_records, entry_record, entry_records, records_in, answer_with, bodies_of, answer_of, said_by, bodies_in, PreparesBatch}
-use Rattle.persistence.proofs.Tried.{tried, prepare_sound, prepare_unsound}
+use Rattle.persistence.proofs.Tried.{tried}
 use Rattle.codec.specs.declared.HardState.{HardState}
 use Rattle.codec.specs.declared.RaftSnapshotPointerRecord.{RaftSnapshotPointerRecord}
 
 -- The records mean the definition's.
-entries_mean : (lent : List ℕ) (d : RaftReplicaIdentity) (es : List BatchEntry) → bodies_of lent (entry_records d es) ≡ said_by (records_of (identity_of d) (entries_of es lent))
+entries_mean : (lent : List ℕ) (d : RaftReplicaIdentity) (es : List BatchEntry) → bodies_of lent (entry_records d es) ≡ said_by (R.entry_records (identity_of d) (entries_of es lent))
 unfolding entries_of
 entries_mean lent d [] = refl
 entries_mean lent d (e ∷ es) = ap (λ (l : List D.Body). body_of (entry_record d e).body lent ∷ l) (entries_mean lent d es)
@@ -68,21 +70,23 @@ module _ (d : RaftReplicaIdentity) (b : RaftPersistenceBatch) (lent : List ℕ) 
   pub records_mean : bodies_of lent (records_in d b) ≡ said_by (R.batch_records (identity_of d) (batch_of b lent))
   unfolding records_in
   records_mean =
-      map-append means (pointer_records b.snapshot ++ own) (hard_state_records d b.hard_state)
-      ∙ ap (λ (x : List D.Body). x ++ bodies_of lent (hard_state_records d b.hard_state)) (map-append means (pointer_records b.snapshot) own)
-      ∙ (λ x. (pointer_means lent b.snapshot x ++ entries_mean lent d b.entries.now x) ++ hard_state_means lent d b.hard_state x)
-      ∙ ap (λ (x : List D.Body). x ++ said_by (R.hard_state_records (identity_of d) (maybe_hard_state_of b.hard_state)))
-      (sym (map-append says (R.pointer_records (maybe_pointer_of b.snapshot)) (records_of (identity_of d) (entries_of b.entries.now lent))))
-      ∙ sym (map-append says (R.pointer_records (maybe_pointer_of b.snapshot) ++ records_of (identity_of d) (entries_of b.entries.now lent)) (R.hard_state_records (identity_of d) (maybe_hard_state_of b.hard_state)))
+      ap (bodies_of lent) (append_assoc (pointer_records b.snapshot) own (hard_state_records d b.hard_state))
+      ∙ map-append means (pointer_records b.snapshot) (own ++ hard_state_records d b.hard_state)
+      ∙ ap (λ (x : List D.Body). bodies_of lent (pointer_records b.snapshot) ++ x) (map-append means own (hard_state_records d b.hard_state))
+      ∙ (λ x. pointer_means lent b.snapshot x ++ (entries_mean lent d b.entries.now x ++ hard_state_means lent d b.hard_state x))
+      ∙ ap (λ (x : List D.Body). said_by (R.pointer_records (maybe_pointer_of b.snapshot)) ++ x)
+      (sym (map-append says (R.entry_records (identity_of d) (entries_of b.entries.now lent)) (R.hard_state_records (identity_of d) (maybe_hard_state_of b.hard_state))))
+      ∙ sym (map-append says (R.pointer_records (maybe_pointer_of b.snapshot)) (R.later_records (identity_of d) (batch_of b lent)))
 
 -- What the preparation says, where it is refused and where it is not.
-refusal_says : {x : Ran} {l : M.Prepared} {whole : Result M.Preview ℕ} {n : ℕ} → R.Prepares x l whole → x.refused ≡ Some n → whole ≡ Err n
+refusal_says : {x : Ran} {whole : Result M.Preview ℕ} {n : ℕ} → Prepares x whole → x.refused ≡ Some n → whole ≡ Err n
 refusal_says {n = n} (inl a) e = a.says ∙ ap Err (let z : a.number ≡ n = cc (sym a.refused ∙ e) in z)
 refusal_says (inr a) e = absurd (none_some (sym a.refused ∙ e))
 
-ready_says : {x : Ran} {l : M.Prepared} {whole : Result M.Preview ℕ} → R.Prepares x l whole → x.refused ≡ None → bodies_in whole ≡ Ok (said_by l)
-ready_says (inl a) e = absurd (none_some (sym e ∙ a.refused))
-ready_says (inr a) e = ap bodies_in a.says ∙ ap (λ (y : M.Prepared). Ok (said_by y)) a.records
+ready_says : {x : Ran} (i : D.Identity) (b : M.Batch) (was : Log ℕ) → Prepares x (M.prepare_on i b was) → x.refused ≡ None
+    → bodies_in (M.prepare_on i b was) ≡ Ok (said_by (R.batch_records i b))
+ready_says i b was (inl a) e = absurd (none_some (sym e ∙ a.refused))
+ready_says i b was (inr a) e = ap bodies_in a.says ∙ ap (λ (y : M.Prepared). Ok (said_by y)) (R.take_apart i b was a.next a.says).records
 
 module _ {s : RecoveredRaftStorage} {st : List ℕ} {d : RaftReplicaIdentity} (b : RaftPersistenceBatch) (lent : List ℕ) where
   answers_unsound : sound_test s st ≡ false → PreparesBatch s st d b lent (Err W.Unsound)
@@ -131,7 +135,7 @@ module _ {s : RecoveredRaftStorage} {st : List ℕ} {d : RaftReplicaIdentity} (b
     pub answers_ready : (l : ArrayVec PreparedRecord) → ran.refused ≡ None → l.items ≡ records_in d b → PreparesBatch s st d b lent (Ok l)
     unfolding answer_of
     answers_ready l q e =
-        sound_answer (Ok l) (ap (λ (x : List PreparedRecord). Ok (bodies_of lent x)) e ∙ ap Ok (records_mean d b lent) ∙ sym (ready_says (tried w b lent reached) q))
+        sound_answer (Ok l) (ap (λ (x : List PreparedRecord). Ok (bodies_of lent x)) e ∙ ap Ok (records_mean d b lent) ∙ sym (ready_says (identity_of d) (batch_of b lent) (replica_of (identity_of d) (meaning s st)) (tried w b lent reached) q))
         (ap (λ (x : List PreparedRecord). Ok (record { items = x })) e)
 
 -- What was tried is told by the answer.

@@ -3,7 +3,7 @@
 use Rattle.std.specs.Prelude.{Option, None, Some, option_map, Result, Ok}
 use mathlib.Core.Path.{◌≡◌, refl, sym, ap, subst, ◌∙◌}
 use mathlib.Core.Logic.{inl, inr}
-use mathlib.Core.List.{List, [], ◌∷◌, ◌++◌, append-nil}
+use mathlib.Core.List.{List, [], ◌∷◌}
 use Prim.Native.Nat.{ℕ, ◌+◌}
 use native.Mathlib.Omega.{arith}
 use lib.ListN.{length, get_or}
@@ -33,9 +33,9 @@ use Rattle.preview.specs.declared.Preview.{Preview}
 use Rattle.batches.specs.Checks.{pointer_rows, hard_state_rows, term_rows}
 use Rattle.batches.specs.Meaning.{entries_of, batch_of}
 use Rattle.preview.specs.Preview.{Ran, ran, formed_by, onward, extend_over, Reached}
-use Rattle.preview.specs.Extends.{records_of, Ends, Extends}
+use Rattle.preview.specs.Extends.{Ends, Extends}
 use Rattle.persistence.specs.Prepare.{held_at, pointed_with, point_ran, hardened_with, harden_ran, conclude_ran, point_in, harden_in, followed, lastly_ran, entries_ran, pointed_ran, beginning, prepare_ran, PointedReached, BatchReached}
-use Rattle.persistence.specs.Prepares.{Stands, Steps, pointer_records, hard_state_records, batch_records, Prepares}
+use Rattle.persistence.specs.Prepares.{Stands, Steps, Prepares}
 use Rattle.batches.proofs.Rows.{pointer_rows_lem, hard_state_means, term_means}
 use Rattle.preview.proofs.Extending.{refused_by, passed_by, extends}
 
@@ -52,12 +52,12 @@ ends_followed x rest whole a =
       says = a.says;
     }
 
-goes_followed : (x : Ran) (rest : Preview → List ℕ → Ran) (l : M.Prepared) (whole : Result M.Preview ℕ) → x.refused ≡ None
-    → Prepares (rest x.preview x.bytes) l whole → Prepares (followed x rest) l whole
-goes_followed x rest l whole e q = subst (λ (o : Option ℕ). Prepares (onward o x (rest x.preview x.bytes)) l whole) (sym e) q
+goes_followed : (x : Ran) (rest : Preview → List ℕ → Ran) (whole : Result M.Preview ℕ) → x.refused ≡ None
+    → Prepares (rest x.preview x.bytes) whole → Prepares (followed x rest) whole
+goes_followed x rest whole e q = subst (λ (o : Option ℕ). Prepares (onward o x (rest x.preview x.bytes)) whole) (sym e) q
 
-carry : (x : Ran) (l : M.Prepared) (whole next : Result M.Preview ℕ) → whole ≡ next → Prepares x l next → Prepares x l whole
-carry x l whole next e q = subst (λ (w : Result M.Preview ℕ). Prepares x l w) (sym e) q
+carry : (x : Ran) (whole next : Result M.Preview ℕ) → whole ≡ next → Prepares x next → Prepares x whole
+carry x whole next e q = subst (λ (w : Result M.Preview ℕ). Prepares x w) (sym e) q
 
 -- A part that is refused by the definition's rows, and leaves the definition's preview where it is not.
 steps : (x : Ran) (rows : List Row) (v : M.Preview) (go : M.Preview → Result M.Preview ℕ) → first_of rows ≡ x.refused → (x.refused ≡ None → Stands x v)
@@ -68,11 +68,11 @@ steps x rows v go w s = pick x.refused refl
     pick (Some n) e = inl (record { number = n; refused = e; says = refused_by rows v go n (w ∙ e) })
     pick None e = inr (record { refused = e; says = passed_by rows v go (w ∙ e); stands = s e })
 
-follow_step : (x : Ran) (v : M.Preview) (go : M.Preview → Result M.Preview ℕ) (whole : Result M.Preview ℕ) (rest : Preview → List ℕ → Ran) (l : M.Prepared) → Steps x v go whole
-    → (x.refused ≡ None → Stands x v → Prepares (rest x.preview x.bytes) l (go v)) → Prepares (followed x rest) l whole
-follow_step x v go whole rest l (inl a) k = inl (ends_followed x rest whole a)
-follow_step x v go whole rest l (inr a) k =
-    goes_followed x rest l whole a.refused (carry (rest x.preview x.bytes) l whole (go v) a.says (k a.refused a.stands))
+follow_step : (x : Ran) (v : M.Preview) (go : M.Preview → Result M.Preview ℕ) (whole : Result M.Preview ℕ) (rest : Preview → List ℕ → Ran) → Steps x v go whole
+    → (x.refused ≡ None → Stands x v → Prepares (rest x.preview x.bytes) (go v)) → Prepares (followed x rest) whole
+follow_step x v go whole rest (inl a) k = inl (ends_followed x rest whole a)
+follow_step x v go whole rest (inr a) k =
+    goes_followed x rest whole a.refused (carry (rest x.preview x.bytes) whole (go v) a.says (k a.refused a.stands))
 
 module _ (i : Identity) (p : Preview) (cs : List ℕ) (v : M.Preview) (m : Means p.head p.entries cs v.log) (at : v.lsn ≡ p.lsn) where
   abbrev log : D.Log ℕ
@@ -165,7 +165,7 @@ module _ (i : Identity) (p : Preview) (cs : List ℕ) (v : M.Preview) (m : Means
     hardens h go =
         steps (harden_ran k.hard_state b.snapshot h p cs) (M.batch_hard_state_rows i batch was (hard_state_of h) v) (M.preview_hard_state i (hard_state_of h) v) go (harden_refuses h) (harden_next h)
 
-    pub concludes : Prepares (conclude_ran b.hard_state k.hard_state p cs) v.records (M.concluded i batch was v)
+    pub concludes : Prepares (conclude_ran b.hard_state k.hard_state p cs) (M.concluded i batch was v)
     unfolding conclude_ran M.concluded
     concludes = go (first_of (term_rows b.hard_state k.hard_state p.head.snapshot_term (maximum_term p.head p.entries))) refl
       where
@@ -173,7 +173,7 @@ module _ (i : Identity) (p : Preview) (cs : List ℕ) (v : M.Preview) (m : Means
         rows = term_means b lent k ks kcs v p.head p.entries cs (sym m.view) (omega (arith, m.places, m.fits.short))
 
         go : (o : Option ℕ) → first_of (term_rows b.hard_state k.hard_state p.head.snapshot_term (maximum_term p.head p.entries)) ≡ o
-            → Prepares (ran (first_of (term_rows b.hard_state k.hard_state p.head.snapshot_term (maximum_term p.head p.entries))) p cs) v.records
+            → Prepares (ran (first_of (term_rows b.hard_state k.hard_state p.head.snapshot_term (maximum_term p.head p.entries))) p cs)
             (M.previewed (M.hard_state_before_log_term batch was v ∷ []) v Ok)
         go (Some n) w = inl (record { number = n; refused = w; says = refused_by (M.hard_state_before_log_term batch was v ∷ []) v Ok n (ap first_of rows ∙ w) })
         go None w =
@@ -182,7 +182,6 @@ module _ (i : Identity) (p : Preview) (cs : List ℕ) (v : M.Preview) (m : Means
               refused = w;
               says = passed_by (M.hard_state_before_log_term batch was v ∷ []) v Ok (ap first_of rows ∙ w);
               stands = record { means = m; lsn = at };
-              records = refl;
             })
 
 -- The hard state, if there is one, then the terms.
@@ -208,16 +207,15 @@ module _ (i : Identity) (b : RaftPersistenceBatch) (lent : List ℕ) (k : Header
     unfolding M.hardened
     hardened_some h = hardens i p cs v m at b lent k ks kcs h (M.concluded i asking before)
 
-    lastly_of : (hs : Option HardState) → Prepares (followed (harden_in kept b.snapshot hs p cs) terms) (v.records ++ hard_state_records i (maybe_hard_state_of hs)) (M.hardened i asking before (maybe_hard_state_of hs) v)
+    lastly_of : (hs : Option HardState) → Prepares (followed (harden_in kept b.snapshot hs p cs) terms) (M.hardened i asking before (maybe_hard_state_of hs) v)
     lastly_of None =
-        subst (λ (l : M.Prepared). Prepares (terms p cs) l (M.hardened i asking before None v)) (sym (append-nil v.records))
-        (carry (terms p cs) v.records (M.hardened i asking before None v) (M.concluded i asking before v) hardened_none (concludes i p cs v m at b lent k ks kcs))
+        carry (terms p cs) (M.hardened i asking before None v) (M.concluded i asking before v) hardened_none (concludes i p cs v m at b lent k ks kcs)
     lastly_of (Some h) =
         follow_step (harden_ran kept b.snapshot h p cs) (M.preview_hard_state i (hard_state_of h) v) (M.concluded i asking before) (M.hardened i asking before (Some (hard_state_of h)) v) terms
-        (v.records ++ hard_state_records i (Some (hard_state_of h))) (hardened_some h)
+        (hardened_some h)
         (λ w y. concludes i (harden_ran kept b.snapshot h p cs).preview (harden_ran kept b.snapshot h p cs).bytes (M.preview_hard_state i (hard_state_of h) v) y.means y.lsn b lent k ks kcs)
 
-    pub lastly : Prepares (lastly_ran b.snapshot b.hard_state kept p cs) (v.records ++ hard_state_records i asking.hard_state) (M.hardened i asking before asking.hard_state v)
+    pub lastly : Prepares (lastly_ran b.snapshot b.hard_state kept p cs) (M.hardened i asking before asking.hard_state v)
     unfolding lastly_ran
     lastly = lastly_of b.hard_state
 
@@ -232,18 +230,14 @@ module _ (i : Identity) (b : RaftPersistenceBatch) (lent : List ℕ) (k : Header
     abbrev rest : Preview → List ℕ → Ran
     rest = lastly_ran b.snapshot b.hard_state kept
 
-    abbrev all : M.Prepared
-    all = (v.records ++ records_of i es) ++ hard_state_records i asking.hard_state
-
-    entries_go : Extends came i asking before es v (M.extended i asking before es v) → Prepares (followed came rest) all (M.extended i asking before es v)
+    entries_go : Extends came i asking before (M.extended i asking before es v) → Prepares (followed came rest) (M.extended i asking before es v)
     entries_go (inl a) = inl (ends_followed came rest (M.extended i asking before es v) a)
     entries_go (inr g) =
-        goes_followed came rest all (M.extended i asking before es v) g.refused
-        (carry (rest came.preview came.bytes) all (M.extended i asking before es v) (M.hardened i asking before asking.hard_state g.next) g.says
-        (subst (λ (l : M.Prepared). Prepares (rest came.preview came.bytes) (l ++ hard_state_records i asking.hard_state) (M.hardened i asking before asking.hard_state g.next)) g.records
-        (lastly came.preview came.bytes g.next g.means g.lsn)))
+        goes_followed came rest (M.extended i asking before es v) g.refused
+        (carry (rest came.preview came.bytes) (M.extended i asking before es v) (M.hardened i asking before asking.hard_state g.next) g.says
+        (lastly came.preview came.bytes g.next g.means g.lsn))
 
-    pub entries_prepare : Prepares (entries_ran d b kept lent p cs) all (M.extended i asking before es v)
+    pub entries_prepare : Prepares (entries_ran d b kept lent p cs) (M.extended i asking before es v)
     unfolding entries_ran
     entries_prepare = entries_go (extends i asking before d lent b.entries.now p cs v m at reached)
 
@@ -280,20 +274,17 @@ module _ (d : RaftReplicaIdentity) (b : RaftPersistenceBatch) (lent : List ℕ)
   unfolding M.pointed
   pointed_some r = points own p₀ cs v₀ m₀ refl r asked (M.extended own asked base asked.entries)
 
-  abbrev records_with : Option RaftSnapshotPointerRecord → M.Prepared
-  records_with s = (pointer_records (maybe_pointer_of s) ++ records_of own asked.entries) ++ hard_state_records own asked.hard_state
-
   pointed_of : (s : Option RaftSnapshotPointerRecord) → PointedReached d b lent p₀ s cs
-      → Prepares (followed (point_in own p₀ s cs) follow) (records_with s) (M.pointed own asked base (maybe_pointer_of s) v₀)
+      → Prepares (followed (point_in own p₀ s cs) follow) (M.pointed own asked base (maybe_pointer_of s) v₀)
   pointed_of None k =
-      carry (follow p₀ cs) (records_with None) (M.pointed own asked base None v₀) (M.extended own asked base asked.entries v₀) pointed_none
+      carry (follow p₀ cs) (M.pointed own asked base None v₀) (M.extended own asked base asked.entries v₀) pointed_none
       (entries_prepare own b lent h hs cs d p₀ cs v₀ m₀ refl (k refl))
   pointed_of (Some r) k =
       follow_step (point_ran own p₀ r cs) (M.preview_pointer (pointer_record_of r) v₀) (M.extended own asked base asked.entries) (M.pointed own asked base (Some (pointer_record_of r)) v₀) follow
-      (records_with (Some r)) (pointed_some r)
+      (pointed_some r)
       (λ w y. entries_prepare own b lent h hs cs d (point_ran own p₀ r cs).preview (point_ran own p₀ r cs).bytes (M.preview_pointer (pointer_record_of r) v₀) y.means y.lsn (k w))
 
-  pointed_prepare : PointedReached d b lent p₀ b.snapshot cs → Prepares (pointed_ran d b h.hard_state lent p₀ cs) (batch_records own asked) (M.pointed own asked base asked.snapshot v₀)
+  pointed_prepare : PointedReached d b lent p₀ b.snapshot cs → Prepares (pointed_ran d b h.hard_state lent p₀ cs) (M.pointed own asked base asked.snapshot v₀)
   unfolding pointed_ran
   pointed_prepare k = pointed_of b.snapshot k
 
@@ -301,14 +292,13 @@ module _ (d : RaftReplicaIdentity) (b : RaftPersistenceBatch) (lent : List ℕ)
   unfolding M.prepare_on view_of
   prepare_is = refl
 
-  -- Preparing is the definition's: refused by that number, or ok with that preview, and the records of the pointer, the entries and
-  -- the hard state.
-  pub prepares : Prepares (prepare_ran d b lent (beginning h hs) cs) (batch_records (identity_of d) (batch_of b lent)) (M.prepare_on (identity_of d) (batch_of b lent) (view_of h hs cs))
+  -- Preparing is the definition's: refused by that number, or ok with that preview.
+  pub prepares : Prepares (prepare_ran d b lent (beginning h hs) cs) (M.prepare_on (identity_of d) (batch_of b lent) (view_of h hs cs))
   unfolding prepare_ran
   prepares = go (first_of (M.batch_rows own asked base)) refl
     where
       go : (o : Option ℕ) → first_of (M.batch_rows own asked base) ≡ o
-          → Prepares (formed_by o p₀ cs (pointed_ran d b h.hard_state lent p₀ cs)) (batch_records own asked) (M.prepare_on own asked base)
+          → Prepares (formed_by o p₀ cs (pointed_ran d b h.hard_state lent p₀ cs)) (M.prepare_on own asked base)
       go (Some n) w =
           inl (record {
             number = n;
@@ -316,5 +306,5 @@ module _ (d : RaftReplicaIdentity) (b : RaftPersistenceBatch) (lent : List ℕ)
             says = prepare_is ∙ refused_by (M.batch_rows own asked base) v₀ (M.pointed own asked base asked.snapshot) n w;
           })
       go None w =
-          carry (pointed_ran d b h.hard_state lent p₀ cs) (batch_records own asked) (M.prepare_on own asked base) (M.pointed own asked base asked.snapshot v₀)
+          carry (pointed_ran d b h.hard_state lent p₀ cs) (M.prepare_on own asked base) (M.pointed own asked base asked.snapshot v₀)
           (prepare_is ∙ passed_by (M.batch_rows own asked base) v₀ (M.pointed own asked base asked.snapshot) w) (pointed_prepare (reached w))

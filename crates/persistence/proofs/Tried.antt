@@ -1,17 +1,16 @@
 -- A batch tried on what is kept of its replica is the definition's preparation.
 -- Assumes nothing.
-use Rattle.std.specs.Prelude.{Option, None, Some, Err}
+use Rattle.std.specs.Prelude.{Option, None, Some}
 use mathlib.Core.Path.{◌≡◌, refl, sym, ap, subst, ◌∙◌}
-use mathlib.Core.Bool.{true, false}
+use mathlib.Core.Bool.{true}
 use mathlib.Core.List.{List}
 use Prim.Native.Nat.{ℕ, ◌+◌, ◌-◌, ◌*◌, ◌≤◌}
 use native.Mathlib.Omega.{arith}
 use borrow.Author.Tests.{ltb-false}
 use lib.ListN.{length, take, drop, replicate}
 use Rattle.definition.specs.Table.{Row, first_of, every}
-use Rattle.definition.specs.Records.{Identity}
 use Rattle.definition.specs.Log as D
-use Rattle.definition.specs.Recovery.{Recovery, replica_of, sound}
+use Rattle.definition.specs.Recovery.{replica_of}
 use Rattle.definition.specs.Batch as M
 use Rattle.definition.proofs.Laws.{clear, none_some}
 use Rattle.ids.specs.declared.RaftReplicaIdentity.{RaftReplicaIdentity}
@@ -26,7 +25,6 @@ use Rattle.storage.specs.Model.{entries_in}
 use Rattle.storage.specs.Meaning.{meaning}
 use Rattle.readers.specs.declared.Own.{Own}
 use Rattle.readers.specs.Own.{block_of}
-use Rattle.readers.proofs.Answers.{ask_sound, ask_unsound}
 use Rattle.readers.proofs.Owns.{Owns}
 use Rattle.batches.specs.declared.RaftPersistenceBatch.{RaftPersistenceBatch}
 use Rattle.batches.specs.Meaning.{entries_of, batch_of}
@@ -35,7 +33,7 @@ use Rattle.persistence.specs.declared.TriedBatch.{TriedBatch}
 use Rattle.preview.specs.declared.Preview.{Preview}
 use Rattle.preview.specs.Preview.{Ran, formed_by, onward, extend_over, Leaves, Reached, Sits}
 use Rattle.persistence.specs.Prepare.{point_in, followed, lastly_ran, entries_ran, beginning, pointed_ran, prepare_ran, PointedReached, BatchReached}
-use Rattle.persistence.specs.Prepares.{batch_records, Prepares}
+use Rattle.persistence.specs.Prepares.{Prepares}
 use Rattle.persistence.specs.Tries.{Kept, ran_of, tried_on, TriedReached}
 use Rattle.preview.proofs.Extending.{all_fit}
 use Rattle.persistence.proofs.Prepared.{prepares}
@@ -81,10 +79,10 @@ module _ {s : RecoveredRaftStorage} {st : List ℕ} {i : RaftReplicaIdentity} {o
       }
 
   pub tried : (b : RaftPersistenceBatch) (lent : List ℕ) → TriedReached s st i b lent o
-      → Prepares (tried_on s st i b lent o) (batch_records (identity_of i) (batch_of b lent)) (M.prepare_on (identity_of i) (batch_of b lent) (replica_of (identity_of i) (meaning s st)))
+      → Prepares (tried_on s st i b lent o) (M.prepare_on (identity_of i) (batch_of b lent) (replica_of (identity_of i) (meaning s st)))
   unfolding tried_on
   tried b lent reached =
-      subst (λ (g : D.Log ℕ). Prepares (tried_on s st i b lent o) (batch_records (identity_of i) (batch_of b lent)) (M.prepare_on (identity_of i) (batch_of b lent) g)) w.means.view
+      subst (λ (g : D.Log ℕ). Prepares (tried_on s st i b lent o) (M.prepare_on (identity_of i) (batch_of b lent) g)) w.means.view
       (prepares i b lent o.head (entries_in s o.place) (block_of st o) w.means.fits w.means.places w.means.bytes reached)
 
 -- A batch that is not refused has at most 32 entries.
@@ -145,13 +143,3 @@ module _ (s : RecoveredRaftStorage) (st : List ℕ) (d : RaftReplicaIdentity) (b
       formed : (q : Option ℕ) → first_of rows ≡ q → (formed_by q p cs (followed x (λ p' cs'. followed (extend_over d b.entries.now lent p' cs') (lastly_ran b.snapshot b.hard_state kept)))).refused ≡ None → fit
       formed (Some n) e z = absurd (none_some (sym z))
       formed None e z = pointed (k e) x.refused refl z
-
--- The definition's preparation, where state and store are sound and where they are not.
-module _ (w : Recovery) (i : Identity) (b : M.Batch) where
-  pub prepare_sound : sound w ≡ true → M.prepare w i b ≡ M.prepare_on i b (replica_of i w.state)
-  unfolding M.prepare
-  prepare_sound e = rw (M.prepare, ask_sound (replica_of i) w e)
-
-  pub prepare_unsound : sound w ≡ false → M.prepare w i b ≡ Err 1
-  unfolding M.prepare
-  prepare_unsound e = rw (M.prepare, ask_unsound (replica_of i) w e)

@@ -5,11 +5,11 @@ use Rattle.std.specs.Prelude.{Option, None, Some, Result, Err}
 use mathlib.Core.Path.{◌≡◌, refl, sym, ap, subst, ◌∙◌}
 use mathlib.Core.Logic.{inl, inr}
 use mathlib.Core.Bool.{Bool, true}
-use mathlib.Core.List.{List, [], ◌∷◌, append_assoc, append-nil}
+use mathlib.Core.List.{List, [], ◌∷◌}
 use Prim.Native.Nat.{ℕ, ◌+◌}
 use borrow.Author.Tests.{le-leb}
 use Rattle.definition.specs.Table.{◌≤?◌, Row, first_of, every, u64_max}
-use Rattle.definition.specs.Records.{Identity, entry}
+use Rattle.definition.specs.Records.{Identity}
 use Rattle.definition.specs.Log as D
 use Rattle.definition.specs.Batch as M
 use Rattle.definition.proofs.Laws.{and_i, none_some}
@@ -20,7 +20,7 @@ use Rattle.batches.specs.declared.BatchEntry.{BatchEntry}
 use Rattle.preview.specs.declared.Preview.{Preview}
 use Rattle.batches.specs.Meaning.{entry_of, entries_of, record_of}
 use Rattle.preview.specs.Preview.{Ran, entry_ran, onward, extend_over, Reached, Sits}
-use Rattle.preview.specs.Extends.{Next, records_of, Extends}
+use Rattle.preview.specs.Extends.{Next, Extends}
 use Rattle.preview.proofs.Supplied.{entry_next, entry_refuses}
 
 -- Refused by the first row, else what follows.
@@ -47,20 +47,9 @@ module _ (i : Identity) (batch : M.Batch) (was : D.Log ℕ) where
   extended_next e l v w = passed_by (M.batch_entry_rows i batch was e.log_entry v) (M.preview_entry i e.log_entry v) (M.extended i batch was l) w
 
   -- One entry more, before the rest.
-  module _ (e : M.BatchEntry) (l : List M.BatchEntry) (v : M.Preview) (x : Ran) where
-    longer : first_of (M.batch_entry_rows i batch was e.log_entry v) ≡ None
-        → Extends x i batch was l (M.preview_entry i e.log_entry v) (M.extended i batch was l (M.preview_entry i e.log_entry v))
-        → Extends x i batch was (e ∷ l) v (M.extended i batch was (e ∷ l) v)
-    longer w (inl a) = inl (record { number = a.number; refused = a.refused; says = extended_next e l v w ∙ a.says })
-    longer w (inr a) =
-        inr (record {
-          next = a.next;
-          refused = a.refused;
-          says = extended_next e l v w ∙ a.says;
-          means = a.means;
-          lsn = a.lsn;
-          records = a.records ∙ append_assoc v.records ((i, entry 1 e.log_entry) ∷ []) (records_of i l);
-        })
+  longer : (e : M.BatchEntry) (l : List M.BatchEntry) (v : M.Preview) (x : Ran) → first_of (M.batch_entry_rows i batch was e.log_entry v) ≡ None
+      → Extends x i batch was (M.extended i batch was l (M.preview_entry i e.log_entry v)) → Extends x i batch was (M.extended i batch was (e ∷ l) v)
+  longer e l v x w y = subst (λ (r : Result M.Preview ℕ). Extends x i batch was r) (sym (extended_next e l v w)) y
 
   -- The entries of a batch, where those that are reached have an index of 64 bits.
   module _ (d : RaftReplicaIdentity) (lent : List ℕ) where
@@ -81,9 +70,9 @@ module _ (i : Identity) (batch : M.Batch) (was : D.Log ℕ) where
           ∙ ap (λ (g : D.Log ℕ). D.with_entry (log_entry_of (record_of d e) lent) (v.lsn + 1) g) m.view
 
       turn : (es : List BatchEntry) (l : List M.BatchEntry) → Reached d (e ∷ es) lent p cs
-          → (next : (p : Preview) (cs : List ℕ) (v : M.Preview) → Means p.head p.entries cs v.log → v.lsn ≡ p.lsn → Reached d es lent p cs → Extends (extend_over d es lent p cs) i batch was l v (M.extended i batch was l v))
+          → (next : (p : Preview) (cs : List ℕ) (v : M.Preview) → Means p.head p.entries cs v.log → v.lsn ≡ p.lsn → Reached d es lent p cs → Extends (extend_over d es lent p cs) i batch was (M.extended i batch was l v))
           → (o : Option ℕ) → x.refused ≡ o
-          → Extends (onward o x (extend_over d es lent x.preview x.bytes)) i batch was (entry_of lent e ∷ l) v (M.extended i batch was (entry_of lent e ∷ l) v)
+          → Extends (onward o x (extend_over d es lent x.preview x.bytes)) i batch was (M.extended i batch was (entry_of lent e ∷ l) v)
       unfolding Reached
       turn es l k next (Some c) w = inl (record { number = c; refused = w; says = extended_refused (entry_of lent e) l v c (rows ∙ w) })
       turn es l k next None w =
@@ -94,9 +83,9 @@ module _ (i : Identity) (batch : M.Batch) (was : D.Log ℕ) where
           (ap (λ (n : ℕ). n + 1) at ∙ sym y.lsn) (k.1 w))
 
     pub extends : (es : List BatchEntry) (p : Preview) (cs : List ℕ) (v : M.Preview) → Means p.head p.entries cs v.log → v.lsn ≡ p.lsn → Reached d es lent p cs
-        → Extends (extend_over d es lent p cs) i batch was (entries_of es lent) v (M.extended i batch was (entries_of es lent) v)
+        → Extends (extend_over d es lent p cs) i batch was (M.extended i batch was (entries_of es lent) v)
     unfolding extend_over entries_of
-    extends [] p cs v m at k = inr (record { next = v; refused = refl; says = extended_none v; means = m; lsn = at; records = sym (append-nil v.records) })
+    extends [] p cs v m at k = inr (record { next = v; refused = refl; says = extended_none v; means = m; lsn = at })
     extends (e ∷ es) p cs v m at k = turn e p cs v m at es (entries_of es lent) k (extends es) (entry_ran p (record_of d e) cs lent).refused refl
 
     -- Where none is refused all are reached.

@@ -1,8 +1,8 @@
 -- What the entries of a batch are to the definition: a refusal ends the whole, else the rest of the batch follows on the preview that
 -- the entries leave.
 -- Assumes nothing.
-use Rattle.std.specs.Prelude.{ℕ, ◌+◌, ◌≡◌, ◌⊎◌, List, [], ◌∷◌, ◌++◌, None, Some, Result, Err}
-use Rattle.definition.specs.Records.{Identity, LogEntry, entry}
+use Rattle.std.specs.Prelude.{ℕ, ◌+◌, ◌≡◌, ◌⊎◌, List, None, Some, Result, Err}
+use Rattle.definition.specs.Records.{Identity, LogEntry}
 use Rattle.definition.specs.Log as D
 use Rattle.definition.specs.Batch as M
 use Rattle.view.specs.Meaning.{view_of, Means}
@@ -14,25 +14,19 @@ pub record Next (p : Preview) (cs : List ℕ) (d : LogEntry) (x : Ran) : Type 0 
   pub means : Means x.preview.head x.preview.entries x.bytes (D.with_entry d (p.lsn + 1) (view_of p.head p.entries cs))
   pub lsn : x.preview.lsn ≡ p.lsn + 1
 
--- The records of entries.
-abbrev pub records_of : Identity → List M.BatchEntry → M.Prepared
-records_of i [] = []
-records_of i (e ∷ es) = (i, entry 1 e.log_entry) ∷ records_of i es
-
 -- An entry refuses the batch ..
 pub record Ends (x : Ran) (whole : Result M.Preview ℕ) : Type 0 where
   pub number : ℕ
   pub refused : x.refused ≡ Some number
   pub says : whole ≡ Err number
 
--- .. or none does, and what follows the entries es is asked on the preview that they leave.
-pub record Goes (x : Ran) (i : Identity) (batch : M.Batch) (was : D.Log ℕ) (es : List M.BatchEntry) (v : M.Preview) (whole : Result M.Preview ℕ) : Type 0 where
+-- .. or none does, and what follows the entries is asked on the preview that they leave.
+pub record Goes (x : Ran) (i : Identity) (batch : M.Batch) (was : D.Log ℕ) (whole : Result M.Preview ℕ) : Type 0 where
   pub next : M.Preview
   pub refused : x.refused ≡ None
   pub says : whole ≡ M.hardened i batch was batch.hard_state next
   pub means : Means x.preview.head x.preview.entries x.bytes next.log
   pub lsn : next.lsn ≡ x.preview.lsn
-  pub records : next.records ≡ v.records ++ records_of i es
 
-abbrev pub Extends : Ran → Identity → M.Batch → D.Log ℕ → List M.BatchEntry → M.Preview → Result M.Preview ℕ → Type 0
-Extends x i batch was es v whole = Ends x whole ⊎ Goes x i batch was es v whole
+abbrev pub Extends : Ran → Identity → M.Batch → D.Log ℕ → Result M.Preview ℕ → Type 0
+Extends x i batch was whole = Ends x whole ⊎ Goes x i batch was whole

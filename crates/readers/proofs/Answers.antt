@@ -1,42 +1,20 @@
 -- What a reader answers, where state and store are sound and where they are not.
 -- Assumes nothing.
-use Rattle.std.specs.Prelude.{Result, Ok, Err}
-use mathlib.Core.Path.{◌≡◌, refl, sym, ◌∙◌}
-use mathlib.Core.Bool.{Bool, true, false, ◌&&◌, not, true≢false}
-use mathlib.Core.List.{List, [], ◌∷◌}
+use Rattle.std.specs.Prelude.{Result, Ok}
+use mathlib.Core.Path.{◌≡◌, sym, ◌∙◌}
+use mathlib.Core.Bool.{Bool, true, false, true≢false}
+use mathlib.Core.List.{List}
 use Prim.Native.Nat.{ℕ, ◌≤◌}
 use borrow.Author.Tests.{leb-true}
-use Rattle.definition.specs.Table.{unless, first_of, ◌when◌}
-use Rattle.definition.specs.Recovery.{State, Recovery, sound_state, sound_store, sound, ask}
+use Rattle.definition.specs.Recovery.{State, sound}
 use Rattle.definition.proofs.Laws.{all_facts}
+use Rattle.definition.proofs.Store.{ask_sound}
 use Rattle.storage.specs.declared.RecoveredRaftStorage.{RecoveredRaftStorage}
 use Rattle.storage.specs.Meaning.{meaning, recovery_of}
 use Rattle.soundness.specs.Sound.{sound_clauses, sound_test}
 use Rattle.soundness.proofs.Sound.{test_sound}
 use Rattle.readers.specs.Own.{Passes}
 use Rattle.readers.specs.Reads.{Reads}
-
--- The definition's answer.
-module _ {A : Type 0} (f : State → A) (w : Recovery) where
-  pub ask_sound : sound w ≡ true → ask f w ≡ Ok (f w.state)
-  unfolding ask sound
-  ask_sound = go (sound_state w.state) (sound_store w)
-    where
-      go : (a b : Bool) → (a && b) ≡ true → unless (first_of ((1 when not b) ∷ (1 when not a) ∷ [])) (f w.state) ≡ Ok (f w.state)
-      go true true e = refl
-      go true false e = absurd (true≢false (sym e))
-      go false true e = absurd (true≢false (sym e))
-      go false false e = absurd (true≢false (sym e))
-
-  pub ask_unsound : sound w ≡ false → ask f w ≡ Err 1
-  unfolding ask sound
-  ask_unsound = go (sound_state w.state) (sound_store w)
-    where
-      go : (a b : Bool) → (a && b) ≡ false → unless (first_of ((1 when not b) ∷ (1 when not a) ∷ [])) (f w.state) ≡ Err 1
-      go true true e = absurd (true≢false e)
-      go true false e = refl
-      go false true e = refl
-      go false false e = refl
 
 -- What the code's test says.
 module _ {s : RecoveredRaftStorage} {st : List ℕ} {b : Bool} (k : Passes s st b) where

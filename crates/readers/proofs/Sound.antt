@@ -24,7 +24,8 @@ use Rattle.readers.specs.declared.SoundStorage.{SoundStorage}
 use Rattle.readers.specs.Own.{own_in}
 use Rattle.readers.specs.Reads.{Reads, ReadsReplica, ReadsPlace, Shows, place_in, command_at}
 use Rattle.readers.specs.Sound.{opened_of, opens, state_in, log_for}
-use Rattle.readers.proofs.Answers.{ask_sound, ask_unsound, test_passed, whole, reads_sound}
+use Rattle.definition.proofs.Store.{ask_sound, ask_unsound}
+use Rattle.readers.proofs.Answers.{test_passed, whole, reads_sound}
 
 ok_if : {A : Type 0} (b : Bool) (x y : A) → ◌≡◌ {A = Result A Refusal} (Ok (if b then x else y)) (if b then Ok x else Ok y)
 ok_if true x y = refl

@@ -10,6 +10,7 @@ use Rattle.definition.specs.Records.{Identity}
 use Rattle.definition.specs.Log.{Log}
 use Rattle.definition.specs.Recovery.{replica_of, sound}
 use Rattle.definition.specs.Batch as M
+use Rattle.definition.proofs.Prepared.{prepare_sound, prepare_unsound}
 use Rattle.definition.proofs.Laws.{none_some}
 use Rattle.ids.specs.declared.RaftReplicaIdentity.{RaftReplicaIdentity}
 use Rattle.ids.specs.declared.Refusal.{Refusal}
@@ -26,10 +27,10 @@ use Rattle.batches.specs.declared.RaftPersistenceBatch.{RaftPersistenceBatch}
 use Rattle.batches.specs.Meaning.{entries_of, batch_of}
 use Rattle.persistence.specs.declared.TriedBatch.{TriedBatch}
 use Rattle.preview.specs.Preview.{Ran}
-use Rattle.persistence.specs.Prepares.{batch_records, Prepares}
+use Rattle.persistence.specs.Prepares.{Prepares}
 use Rattle.persistence.specs.Tries.{ran_of, tried_on, TriedReached}
 use Rattle.persistence.proofs.Answered.{told_refused}
-use Rattle.persistence.proofs.Tried.{tried, tried_fit, prepare_sound, prepare_unsound}
+use Rattle.persistence.proofs.Tried.{tried, tried_fit}
 use Rattle.shown.specs.declared.Shown.{Shown}
 use Rattle.shown.specs.Shows.{shown_of, ShowsAt, shown_by}
 use Rattle.shown.proofs.Previewed.{preview_shows}
@@ -79,7 +80,7 @@ module _ (s : RecoveredRaftStorage) (st : List ℕ) (i : RaftReplicaIdentity) (b
     ran = tried_on s st i b lent o
 
     abbrev Asked : Type 0
-    Asked = Prepares ran (batch_records own batch) (M.prepare_on own batch was)
+    Asked = Prepares ran (M.prepare_on own batch was)
 
     shows_sound : (y : M.Shown) → y ≡ defined → ShowsAt s st i b lent index (λ x. x) y
     shows_sound y e = record { means = λ t. e; refused = λ t. absurd (true≢false (sym w.test ∙ t)); unsound = λ u. e }
