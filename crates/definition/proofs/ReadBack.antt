@@ -14,7 +14,7 @@ use Rattle.definition.specs.Records.{Identity, same, LogEntry, HardState, Pointe
 use Rattle.definition.specs.Log.{Log, PointerRecord, hard_state_successor_rows, snapshot_successor_rows, install_rows, rows, raised_by, empty, with_entry, with_hard_state, with_pointer, with_hard, accept, largest_term, maximum_observed_term, normalized_to, normalized_hard_state, normalize_hard_state_term}
 use Rattle.definition.specs.Batch.{BatchEntry, Batch, Prepared, Preview, preview_entry, preview_pointer, preview_hard_state, prepare, batch_pointer_rows, batch_entry_rows, batch_hard_state_rows, batch_rows, concluded, hardened, extended, pointed, prepare_on}
 use Rattle.definition.specs.Recovery.{lookup, Out, State, fresh_state, Recovery, fresh, sound, normalized, normalized_state, observed, answers, finish, state_answers, state_after, replica_of}
-use Rattle.definition.specs.ReadBack.{commits_less, Written, SameEntries, ReadsBack, ReadBack, ReadBackFromEmpty}
+use Rattle.definition.specs.ReadBack.{commits_less, Written, SameEntries, Left, ReadsBack, ReadBack, ReadBackFromEmpty}
 use Rattle.definition.proofs.Laws.{contra, Clear, clear_l, clear_r, clear_i}
 use Rattle.definition.proofs.Order.{same_eq, lookup_map}
 use Rattle.definition.proofs.SoundLog.{truncated_is}
@@ -240,22 +240,22 @@ module _ (w : Recovery) (e : sound w ≡ true) (i : Identity) (b : Batch) (end :
   -- Its commit is not below the view's, there is room for the replica, and for as many records as a batch has.
   commits_enough : (was : Log ℕ) → Alike was (replica_of i w.state) → commits_less b was ≡ false
   commits_enough was a =
-      ap (λ (n : ℕ). if_some (λ (h : HardState). h.commit <? n) b.hard_state) (commit_alike was (replica_of i w.state) a) ∙ c.commit
+      ap (λ (n : ℕ). if_some (λ (h : HardState). h.commit <? n) b.hard_state) (commit_alike was (replica_of i w.state) a) ∙ c.admitted.commit
 
   room : room_for i w.state ≡ true
-  room = c.room
+  room = c.admitted.room
 
   counted : (n : ℕ) → n ≤ 34 → w.state.scanned_records + n ≤ u64_max
-  counted n h = omega (arith, c.counts)
+  counted n h = omega (arith, c.admitted.counts)
 
   back : (was : Log ℕ) → PreparedOn was → ReadsBack w i b end k ws
   unfolding batch_rows
   back was o =
       record {
         accepted = rw answers_are t.accepted;
-        others = rw observed_is t.others;
-        same_entries = λ n. rw (observed_is, t.own) (all n).entries;
-        hard_state = λ n h. rw (observed_is, t.own) ((all n).hard h);
+        left =
+            subst (λ (x : State). Left w.state x i b end k) (sym observed_is)
+            (record { others = t.others; same_entries = λ n. rw t.own (all n).entries; hard_state = λ n h. rw t.own ((all n).hard h) });
       }
     where
       p : Prepared
@@ -275,8 +275,8 @@ module _ (w : Recovery) (e : sound w ≡ true) (i : Identity) (b : Batch) (end :
 
       t : Took w.state i ws
       t =
-          took w.state i ws (state_steady w.state (state_sound w e)) (counted (length ws) (omega (arith, count, few_records i b was apart.whole))) c.rising
-          c.machine room x.taken
+          took w.state i ws (state_steady w.state (state_sound w e)) (counted (length ws) (omega (arith, count, few_records i b was apart.whole))) c.admitted.rising
+          c.admitted.machine room x.taken
 
       all : length end.records ≤ k → Whole i b was end end (fold_log (replica_of i w.state) ws)
       all n = x.whole (omega (arith, n, count, ap length apart.records))
@@ -361,6 +361,6 @@ read_back w e i b end k ws c = go c.accepted
 
 pub read_back_from_empty : ReadBackFromEmpty
 read_back_from_empty rs m i b end k ws c =
-    let few : (state_after fresh_state rs).scanned_records < u64_max = omega (arith, c.counts, ap (λ (s : State). s.scanned_records) (observed_state rs)) in
+    let few : (state_after fresh_state rs).scanned_records < u64_max = omega (arith, c.admitted.counts, ap (λ (s : State). s.scanned_records) (observed_state rs)) in
     read_back (observed fresh rs)
     (ap sound (observed_fresh rs) ∙ laid_sound (state_after fresh_state rs) (sound_while_counted fresh_state rs fresh_sound m few)) i b end k ws c

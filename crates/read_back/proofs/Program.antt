@@ -1,0 +1,144 @@
+-- What the contracts promise of preparing and observing is the definition's; so what is written can be read back by the program.
+-- Assumes nothing.
+use Rattle.std.specs.Prelude.{None, Some, Result, Ok, Err}
+use mathlib.Core.Path.{◌≡◌, refl, sym, ap, subst, ◌∙◌}
+use mathlib.Core.Logic.{◌⊎◌, inl, inr}
+use mathlib.Core.Bool.{Bool, true, false, true≢false}
+use mathlib.Core.List.{List, [], ◌∷◌, map}
+use Prim.Native.Nat.{ℕ, zero, suc}
+use native.Mathlib.Omega.{arith}
+use lib.ListN.{length, take, length-map}
+use Rattle.definition.specs.Records.{Record, Content, content_of, content, Body, raft}
+use Rattle.definition.specs.Recovery.{Out, State, Recovery, Chunk, sound, finish, observed, observe_until_refused}
+use Rattle.definition.specs.Batch as M
+use Rattle.definition.specs.ReadBack as B
+use Rattle.definition.proofs.Chunk.{whole_taken, whole_left, none_ends}
+use Rattle.definition.proofs.ReadBack.{read_back}
+use Rattle.store.specs.Zeros.{zeros}
+use Rattle.codec.specs.declared.WalRecord.{WalRecord}
+use Rattle.codec.specs.Records.{body_of, record_of}
+use Rattle.storage.specs.declared.RecoveredRaftStorage.{RecoveredRaftStorage}
+use Rattle.storage.specs.Model.{fresh_storage}
+use Rattle.storage.specs.Meaning.{meaning, recovery_of}
+use Rattle.soundness.specs.Sound.{sound_test}
+use Rattle.soundness.proofs.Fresh.{fresh_test}
+use Rattle.finishing.specs.declared.Finished.{Finished}
+use Rattle.finishing.specs.Finishes.{Finishes}
+use Rattle.routing.specs.Observe.{journal_of}
+use Rattle.recovery.specs.Runs.{chunk_of}
+use Rattle.recovery.specs.Program.{state_after_calls, store_after_calls}
+use Rattle.recovery.proofs.Program.{Left, calls_are}
+use Rattle.arrayvec.specs.ArrayVec.{ArrayVec}
+use Rattle.persistence.specs.declared.PreparedRecord.{PreparedRecord}
+use Rattle.persistence.specs.Answer as A
+use Rattle.persistence.specs.Answer.{bodies_of, said_by, bodies_in, PreparesBatch}
+use Rattle.read_back.specs.Program.{Asked, owner_of, batch_in, Prepared, unfinished, finished, ProgramReadBack, ProgramReadBackFromEmpty}
+
+-- An answer that is not a refusal was given on a state and a store that are sound, and is the definition's.
+record Told (w : Recovery) (a : Asked) (l : ArrayVec PreparedRecord) : Type 0 where
+  preview : M.Preview
+  is : M.prepare w (owner_of a) (batch_in a) ≡ Ok preview
+  says : bodies_of a.lent l.items ≡ said_by preview.records
+
+module _ (p : RecoveredRaftStorage) (pst : List ℕ) (a : Asked) (l : ArrayVec PreparedRecord) (k : PreparesBatch p pst a.owner a.batch a.lent (Ok l)) where
+  answered_sound : sound_test p pst ≡ true
+  unfolding A.answer_of
+  answered_sound = go (sound_test p pst) refl
+    where
+      go : (b : Bool) → sound_test p pst ≡ b → b ≡ true
+      go true e = refl
+      go false e = let z : ◌≡◌ {A = ℕ} 0 1 = cc (k.refused e) in absurd (omega arith)
+
+  told : Told (recovery_of p pst) a l
+  unfolding A.answer_of
+  told = go (M.prepare (recovery_of p pst) (owner_of a) (batch_in a)) refl (k.means answered_sound)
+    where
+      go : (r : Result M.Preview ℕ) → M.prepare (recovery_of p pst) (owner_of a) (batch_in a) ≡ r
+          → ◌≡◌ {A = Result (List Body) ℕ} (Ok (bodies_of a.lent l.items)) (bodies_in r)
+          → Told (recovery_of p pst) a l
+      go (Ok v) e q = record { preview = v; is = e; says = let z : bodies_of a.lent l.items ≡ said_by v.records = cc in z }
+      go (Err n) e q = let z : ◌≡◌ {A = ℕ} 0 1 = cc in absurd (omega arith)
+
+-- Of the state that is read back, or when it is finished.
+record Comes (w : Recovery) (a : Asked) (l : ArrayVec PreparedRecord) : Type 0 where
+  preview : M.Preview
+  is : (M.prepare w (owner_of a) (batch_in a) ≡ Ok preview) ⊎ (M.prepare (finish w).next (owner_of a) (batch_in a) ≡ Ok preview)
+  says : bodies_of a.lent l.items ≡ said_by preview.records
+
+finished_test : (p : RecoveredRaftStorage) (pst : List ℕ) (f : Finished) → Finishes p pst f → sound_test f.state pst ≡ true → sound_test p pst ≡ true
+finished_test p pst f fin e = go (sound_test p pst) refl
+  where
+    go : (b : Bool) → sound_test p pst ≡ b → b ≡ true
+    go true q = refl
+    go false q = sym q ∙ ap (λ (x : RecoveredRaftStorage). sound_test x pst) (sym (fin.kept q)) ∙ e
+
+comes : (s : RecoveredRaftStorage) (st : List ℕ) (a : Asked) (l : ArrayVec PreparedRecord) → Prepared s st a l → Comes (recovery_of s st) a l
+comes s st a l (unfinished p pst same k) =
+    let t : Told (recovery_of p pst) a l = told p pst a l k in
+    record { preview = t.preview; is = inl (ap (λ (w : Recovery). M.prepare w (owner_of a) (batch_in a)) (sym same) ∙ t.is); says = t.says }
+comes s st a l (finished p pst f same fin k) =
+    let t : Told (recovery_of f.state pst) a l = told f.state pst a l k in
+    let next : (finish (recovery_of s st)).next ≡ recovery_of f.state pst =
+    ap (λ (w : Recovery). (finish w).next) (sym same) ∙ ap (λ (o : Out Recovery). o.next) (fin.means (finished_test p pst f fin (answered_sound f.state pst a l k))) in
+    record { preview = t.preview; is = inr (ap (λ (w : Recovery). M.prepare w (owner_of a) (batch_in a)) next ∙ t.is); says = t.says }
+
+-- What the journal says.
+contents_are : (bytes : List ℕ) (ws : List WalRecord) → map content (journal_of ws bytes) ≡ map content_of (map (λ r. body_of r.body bytes) ws)
+contents_are bytes [] = refl
+contents_are bytes (r ∷ ws) = ap {B = List Content} (λ l. content_of (body_of r.body bytes) ∷ l) (contents_are bytes ws)
+
+said_contents : (k : ℕ) (p : M.Prepared) → map content_of (take k (said_by p)) ≡ map Some (take k p)
+said_contents zero p = refl
+said_contents (suc k) [] = refl
+said_contents (suc k) (x ∷ p) = ap {B = List Content} (λ l. Some x ∷ l) (said_contents k p)
+
+pub program_read_back : ProgramReadBack
+program_read_back s st a l k j c st' tested w r =
+    record {
+      taken = ap (λ (x : Chunk). x.taken) (sym chunk) ∙ whole_taken before records none ∙ length-map j.records (λ x. record_of x j.lent);
+      accepted = ap (λ (x : Chunk). x.ended) (sym chunk) ∙ none;
+      preview = m.preview;
+      comes = m.is;
+      as_many = sym (length-map l.items (λ x. body_of x.body a.lent)) ∙ ap length m.says ∙ length-map m.preview.records (λ x. raft x.0 x.1);
+      left = subst (λ (x : State). B.Left (meaning s st) x (owner_of a) (batch_in a) m.preview k) (sym left) b.left;
+    }
+  where
+    before : Recovery
+    before = recovery_of s st
+
+    records : List Record
+    records = journal_of j.records j.lent
+
+    m : Comes before a l
+    m = comes s st a l w.accepted
+
+    whole : (b : Bool) → sound before ≡ b → b ≡ true
+    whole true e = refl
+    whole false e = absurd (true≢false (sym tested ∙ r.unsound e))
+
+    b : B.ReadsBack before (owner_of a) (batch_in a) m.preview k records
+    b =
+        read_back before (whole (sound before) refl) (owner_of a) (batch_in a) m.preview k records
+        (record {
+          accepted = m.is;
+          admitted = w.admitted;
+          first_k =
+              contents_are j.lent j.records
+              ∙ ap (map content_of) w.first_k
+              ∙ ap (λ (x : List Body). map content_of (take k x)) m.says
+              ∙ said_contents k m.preview.records;
+        })
+
+    none : (observe_until_refused before records).ended ≡ None
+    none = none_ends before records b.accepted
+
+    chunk : observe_until_refused before records ≡ chunk_of c st'
+    chunk = r.means tested
+
+    left : meaning c.state st' ≡ (observed before records).state
+    left = ap (λ (x : Chunk). x.left.state) (sym chunk) ∙ ap (λ (x : Recovery). x.state) (whole_left before records none)
+
+pub program_read_back_from_empty : ProgramReadBackFromEmpty
+program_read_back_from_empty cs kept few a l k j c st' w r =
+    let left : Left fresh_storage (zeros 32768) cs = calls_are fresh_storage (zeros 32768) cs kept fresh_test (omega arith) in
+    program_read_back (state_after_calls fresh_storage cs) (store_after_calls (zeros 32768) cs) a l k j c st' left.sound w r
