@@ -15,9 +15,9 @@ from queue import Queue
 top = os.path.dirname(os.path.dirname(os.path.abspath(__file__)))
 crate = os.path.join(top, 'crates/definition')
 stores = os.path.join(top, 'crates/definition_stores/specs/Stores.antt')
-FILES = ['Table', 'Records', 'Frontier', 'Log', 'Recovery', 'Batch', 'Chaining', 'Healthy', 'Retired']
+FILES = ['Table', 'Records', 'Frontier', 'Log', 'Recovery', 'Batch', 'Chaining', 'Healthy', 'Retired', 'ReadBack']
 STAGES = [                  # files of tests, the quick ones first; a stage is run only on what the ones before leave alive
-    ['Refusals', 'Checks', 'Batches', 'Guarantees'], ['Effects', 'Soundness', 'Readers', 'Cells'], ['Starred', 'TwoLists'], ['Stores'],
+    ['Refusals', 'Checks', 'Batches', 'Guarantees'], ['Effects', 'Soundness', 'Readers', 'Cells', 'ReadBack'], ['Starred', 'TwoLists'], ['Stores'],
 ]
 MACHINERY = {               # not rules: tables, options and lists, or what only the proofs and the store's laws speak of
     'Table': ['same_bytes', 'present', 'every', 'all_of', 'if_some', 'is_some', 'or_zero', 'unless', 'first_of', '◌=?◌', '◌≠?◌', '◌<?◌', '◌≤?◌'],

@@ -23,7 +23,8 @@ ok_err e = let z : ◌≡◌ {A = ℕ} 0 1 = cc in omega arith
 pub passed : (l : List Row) (v w : Preview) (go : Preview → Result Preview ℕ) → previewed l v go ≡ Ok w → Clear l × (go v ≡ Ok w)
 passed l v w go e = by (first_of l) refl e
   where
-    by : (o : Option ℕ) → first_of l ≡ o → ◌≡◌ {A = Result Preview ℕ} (elim o [ Some n ↦ Err n | None ↦ go v ]) (Ok w) → Clear l × (go v ≡ Ok w)
+    by : (o : Option ℕ) → first_of l ≡ o → ◌≡◌ {A = Result Preview ℕ} (elim o [ Some n ↦ Err n | None ↦ go v ]) (Ok w)
+        → Clear l × (go v ≡ Ok w)
     by (Some n) p q = absurd (ok_err q)
     by None p q = (clear l p, q)
 

@@ -30,27 +30,33 @@ Begins [] p = Unit {0}
 Begins (r ∷ rs) [] = ⊥
 Begins (r ∷ rs) (x ∷ p) = (content r ≡ Some x) × Begins rs p
 
--- A hard state that may follow the one before, and lies not below a pointer, may follow the one that the pointer makes.
-raised_follows : (p : Pointer) (h : HardState) (o : Option HardState) → Clear (hard_state_successor_rows h o)
+-- A hard state may follow the one before (33 to 36).
+abbrev MayFollow : HardState → Option HardState → Type 0
+MayFollow h o = Clear (hard_state_successor_rows h o)
+
+-- One that may follow the one before, and lies not below a pointer, may follow the one that the pointer makes.
+raised_follows : (p : Pointer) (h : HardState) (o : Option HardState) → MayFollow h o
     → (h.current_term <? p.last_included_term) ≡ false → (h.commit <? p.last_included_index) ≡ false
-    → Clear (hard_state_successor_rows h (Some (raised_by p o)))
+    → MayFollow h (Some (raised_by p o))
 unfolding hard_state_successor_rows raised_by
 raised_follows p h None c s t = (s, (t, (and-false (h.current_term =? p.last_included_term), (and-false (h.current_term =? p.last_included_term), tt))))
 raised_follows p h (Some o) c s t = go (p.last_included_term ≤? o.current_term)
   where
     go : (b : Bool)
-        → Clear (hard_state_successor_rows h (Some (if b
+        → MayFollow h (Some (if b
         then record { current_term = o.current_term; voted_for = o.voted_for; commit = max o.commit p.last_included_index }
-        else record { current_term = p.last_included_term; voted_for = None; commit = p.last_included_index })))
+        else record { current_term = p.last_included_term; voted_for = None; commit = p.last_included_index }))
     go true =
-        (c.0, (le-ltb h.commit (max o.commit p.last_included_index) (omega (arith, ltb-false h.commit o.commit c.1.0, ltb-false h.commit p.last_included_index t)), c.1.1))
+        let (term, (commit, votes)) = c in
+        let high : max o.commit p.last_included_index ≤ h.commit = omega (arith, ltb-false h.commit o.commit commit, ltb-false h.commit p.last_included_index t) in
+        (term, (le-ltb h.commit (max o.commit p.last_included_index) high, votes))
     go false = (s, (t, (and-false (h.current_term =? p.last_included_term), (and-false (h.current_term =? p.last_included_term), tt))))
 
 -- A batch of the replica i, prepared on the log `was`, comes to the preview `end`.
 module _ (i : Identity) (b : Batch) (was : Log ℕ) (end : Preview) where
   -- What of the batch's rows on its hard state does not look at the preview: 33 to 36, 47, 48.
   record Follows (h : HardState) : Type 0 where
-    successor : Clear (hard_state_successor_rows h was.hard_state)
+    successor : MayFollow h was.hard_state
     term : if_some (λ p. h.current_term <? p.snapshot.last_included_term) b.snapshot ≡ false
     index : if_some (λ p. h.commit <? p.snapshot.last_included_index) b.snapshot ≡ false
 
@@ -59,7 +65,7 @@ module _ (i : Identity) (b : Batch) (was : Log ℕ) (end : Preview) where
     alike : Alike v.log log
     tied : v.log.progress.truncated_through_index ≡ v.log.snapshot_index
     hard : (h : HardState) → b.hard_state ≡ Some h → Follows h
-        → Clear (hard_state_successor_rows h log.hard_state) × ((h.commit <? v.log.committed_index) ≡ false)
+        → MayFollow h log.hard_state × ((h.commit <? v.log.committed_index) ≡ false)
 
   -- The log that is read back when all was read.
   record Whole (v : Preview) (log : Log ℕ) : Type 0 where
@@ -93,8 +99,8 @@ module _ (i : Identity) (b : Batch) (was : Log ℕ) (end : Preview) where
     unfolding form_rows batch_hard_state_rows
     hard_form h v c = (g, (r, (c.0, (refl, (c.1.0, tt)))))
 
-    hard_rows : (h : HardState) → b.hard_state ≡ Some h → (v : Preview) (log : Log ℕ) → Standing v log → Clear (batch_hard_state_rows i b was h v)
-        → Clear (rows i (hard_state 1 h) log)
+    hard_rows : (h : HardState) → b.hard_state ≡ Some h → (v : Preview) (log : Log ℕ) → Standing v log
+        → Clear (batch_hard_state_rows i b was h v) → Clear (rows i (hard_state 1 h) log)
     unfolding rows batch_hard_state_rows
     hard_rows h q v log s c =
         let before = clear_l (hard_state_successor_rows h was.hard_state) _ c.1.1 in
@@ -103,7 +109,8 @@ module _ (i : Identity) (b : Batch) (was : Log ℕ) (end : Preview) where
         clear_i (hard_state_successor_rows h log.hard_state) _ after
         (rw (← last_alike v.log log s.alike) beyond, (rw (← commit_alike v.log log s.alike) commit, tt))
 
-    hard_whole : (h : HardState) (t : ℕ) (v : Preview) (log : Log ℕ) → Standing v log → Whole (preview_hard_state i h v) (accept (hard_state 1 h) t log)
+    hard_whole : (h : HardState) (t : ℕ) (v : Preview) (log : Log ℕ) → Standing v log
+        → Whole (preview_hard_state i h v) (accept (hard_state 1 h) t log)
     unfolding with_hard accept with_hard_state
     hard_whole h t v log s =
         let e : SameEntries v.log log = same_entries v.log log s.alike in
@@ -112,8 +119,8 @@ module _ (i : Identity) (b : Batch) (was : Log ℕ) (end : Preview) where
     concluded_whole : (v : Preview) (log : Log ℕ) → Whole v log → concluded i b was v ≡ Ok end → Whole end log
     concluded_whole v log x e = subst (λ (y : Preview). Whole y log) (concluded_is i b was end v e) x
 
-    hardened_end : (o : Option HardState) → b.hard_state ≡ o → (v : Preview) (log : Log ℕ) → Standing v log → hardened i b was o v ≡ Ok end
-        → (ws : List Record) → Begins ws (hard_state_records i o) → End log (hard_state_records i o) ws
+    hardened_end : (o : Option HardState) → b.hard_state ≡ o → (v : Preview) (log : Log ℕ) → Standing v log
+        → hardened i b was o v ≡ Ok end → (ws : List Record) → Begins ws (hard_state_records i o) → End log (hard_state_records i o) ws
     unfolding hardened
     hardened_end None q v log s e ws w =
         none_left log
@@ -127,13 +134,19 @@ module _ (i : Identity) (b : Batch) (was : Log ℕ) (end : Preview) where
     -- An entry.
     entry_form : (e : LogEntry) (v : Preview) → Clear (batch_entry_rows i b was e v) → Clear (form_rows i (entry 1 e))
     unfolding form_rows batch_entry_rows
-    entry_form e v c = (c.1.0, (c.1.1.1.1.0, (refl, (g, (r, (c.1.1.0, (c.1.1.1.0, (c.1.1.1.1.1.0, tt))))))))
+    entry_form e v c =
+        let (lsn, (member, (index, (term, (version, (command, more)))))) = c in
+        (member, (version, (refl, (g, (r, (index, (term, (command, tt))))))))
 
-    entry_rows : (e : LogEntry) (v : Preview) (log : Log ℕ) → Standing v log → Clear (batch_entry_rows i b was e v) → Clear (rows i (entry 1 e) v.log)
+    entry_rows : (e : LogEntry) (v : Preview) (log : Log ℕ) → Standing v log → Clear (batch_entry_rows i b was e v)
+        → Clear (rows i (entry 1 e) v.log)
     unfolding rows batch_entry_rows
-    entry_rows e v log s c = (rw s.tied c.1.1.1.1.1.1.0, c.1.1.1.1.1.1.1)
+    entry_rows e v log s c =
+        let (lsn, (member, (index, (term, (version, (command, (boundary, more))))))) = c in
+        (rw s.tied boundary, more)
 
-    entry_stands : (e : LogEntry) (t : ℕ) (v : Preview) (log : Log ℕ) → Standing v log → Standing (preview_entry i e v) (accept (entry 1 e) t log)
+    entry_stands : (e : LogEntry) (t : ℕ) (v : Preview) (log : Log ℕ) → Standing v log
+        → Standing (preview_entry i e v) (accept (entry 1 e) t log)
     unfolding accept with_entry
     entry_stands e t v log s =
         record { alike = accept_alike v.log log s.alike (entry 1 e) (entry_hardless 1 e) (v.lsn + 1) t; tied = s.tied; hard = s.hard }
@@ -153,7 +166,7 @@ module _ (i : Identity) (b : Batch) (was : Log ℕ) (end : Preview) where
 
     -- The pointer. It is the batch's first record, so that the preview's log is still `was`.
     module _ (log : Log ℕ) (a : Alike was log) (tied : was.progress.truncated_through_index ≡ was.snapshot_index) (less : commits_less b was ≡ false)
-        (follows : (h : HardState) → Clear (hard_state_successor_rows h was.hard_state) → Clear (hard_state_successor_rows h log.hard_state)) where
+        (follows : (h : HardState) → MayFollow h was.hard_state → MayFollow h log.hard_state) where
       commits : (h : HardState) → b.hard_state ≡ Some h → (h.commit <? was.committed_index) ≡ false
       commits h q = ap (if_some (λ (x : HardState). x.commit <? was.committed_index)) (sym q) ∙ less
 
@@ -167,19 +180,25 @@ module _ (i : Identity) (b : Batch) (was : Log ℕ) (end : Preview) where
 
       pointer_is : (p : PointerRecord) (v : Preview) → Clear (batch_pointer_rows i b was p v) → p.identity ≡ i
       unfolding batch_pointer_rows
-      pointer_is p v c = sym (same_eq i p.identity (not-false (same i p.identity) c.1.1.1.1.1.1.1.0))
+      pointer_is p v c =
+          let (version, (group, (replica, (id, (boundary, (applied, (size, (mine, more)))))))) = c in
+          sym (same_eq i p.identity (not-false (same i p.identity) mine))
 
       pointer_form : (p : PointerRecord) (v : Preview) → Clear (batch_pointer_rows i b was p v) → Clear (form_rows i (pointer p.snapshot))
       unfolding form_rows batch_pointer_rows
-      pointer_form p v c = (g, (r, (c.0, (c.1.1.1.0, (c.1.1.1.1.0, (c.1.1.1.1.1.0, (c.1.1.1.1.1.1.0, tt)))))))
+      pointer_form p v c =
+          let (version, (group, (replica, (id, (boundary, (applied, (size, more))))))) = c in
+          (g, (r, (version, (id, (boundary, (applied, (size, tt)))))))
 
-      pointer_rows : (p : PointerRecord) (v : Preview) → p.identity ≡ i → v.log ≡ was → Clear (batch_pointer_rows i b was p v) → Clear (rows i (pointer p.snapshot) was)
+      pointer_rows : (p : PointerRecord) (v : Preview) → p.identity ≡ i → v.log ≡ was → Clear (batch_pointer_rows i b was p v)
+          → Clear (rows i (pointer p.snapshot) was)
       unfolding rows snapshot_successor_rows install_rows batch_pointer_rows
       pointer_rows p v e q c =
-          let (regression, (conflict, (room, (term, (boundary, z))))) = c.1.1.1.1.1.1.1.1 in
-          (regression, (rw (e) at conflict, (rw q at term, (rw q at boundary, tt))))
+          let (version, (group, (replica, (id, (zero_boundary, (applied, (size, (mine, (regression, (conflict, (lsn, (term, (boundary, z))))))))))))) = c in
+          (regression, (rw e at conflict, (rw q at term, (rw q at boundary, tt))))
 
-      raised_stands : (p : PointerRecord) (v : Preview) (t : ℕ) → b.snapshot ≡ Some p → v.log ≡ was → Standing (preview_pointer p v) (accept (pointer p.snapshot) t log)
+      raised_stands : (p : PointerRecord) (v : Preview) (t : ℕ) → b.snapshot ≡ Some p → v.log ≡ was
+          → Standing (preview_pointer p v) (accept (pointer p.snapshot) t log)
       unfolding accept with_pointer
       raised_stands p v t n q =
           record {
@@ -202,7 +221,8 @@ module _ (i : Identity) (b : Batch) (was : Log ℕ) (end : Preview) where
           let next : Preview = preview_pointer p v in
           let (c, f) = passed (batch_pointer_rows i b was p v) next end (extended i b was b.entries) e in
           let own : p.identity ≡ i = pointer_is p v c in
-          subst (λ (j : Identity). Begins ws ((j, pointer p.snapshot) ∷ later_records i b) → End log ((j, pointer p.snapshot) ∷ later_records i b) ws) (sym own)
+          let all : Identity → Prepared = λ j. (j, pointer p.snapshot) ∷ later_records i b in
+          subst (λ (j : Identity). Begins ws (all j) → End log (all j) ws) (sym own)
           (step (pointer p.snapshot) log (later_records i b) (pointer_form p v c)
           (subst (λ (l : List Row). Clear l) (rows_alike was log a (pointer p.snapshot) (pointer_hardless p.snapshot) i) (pointer_rows p v own q c))
           (λ t ws w. extended_end b.entries next (accept (pointer p.snapshot) t log) (raised_stands p v t n q) f ws w) ws) w
@@ -228,7 +248,7 @@ module _ (w : Recovery) (e : sound w ≡ true) (i : Identity) (b : Batch) (end :
     comes : prepare_on i b was ≡ Ok end
     alike : Alike was (replica_of i w.state)
     tied : was.progress.truncated_through_index ≡ was.snapshot_index
-    follows : (h : HardState) → Clear (hard_state_successor_rows h was.hard_state) → Clear (hard_state_successor_rows h (replica_of i w.state).hard_state)
+    follows : (h : HardState) → MayFollow h was.hard_state → MayFollow h (replica_of i w.state).hard_state
 
   observed_is : (observed w ws).state ≡ state_after w.state ws
   unfolding laid
@@ -275,35 +295,35 @@ module _ (w : Recovery) (e : sound w ≡ true) (i : Identity) (b : Batch) (end :
 
       t : Took w.state i ws
       t =
-          took w.state i ws (state_steady w.state (state_sound w e)) (counted (length ws) (omega (arith, count, few_records i b was apart.whole))) c.admitted.rising
-          c.admitted.machine room x.taken
+          took w.state i ws (state_steady w.state (state_sound w e)) (counted (length ws) (omega (arith, count, few_records i b was apart.whole)))
+          c.admitted.rising c.admitted.machine room x.taken
 
       all : length end.records ≤ k → Whole i b was end end (fold_log (replica_of i w.state) ws)
       all n = x.whole (omega (arith, n, count, ap length apart.records))
 
 -- Finishing changes the hard state alone, and what may follow it may follow the one before.
-unnormalized : (h : HardState) (m n : ℕ) (o : Option HardState) → Clear (hard_state_successor_rows h (Some (normalized_to m n o))) → Clear (hard_state_successor_rows h o)
+unnormalized : (h : HardState) (m n : ℕ) (o : Option HardState) → MayFollow h (Some (normalized_to m n o)) → MayFollow h o
 unfolding hard_state_successor_rows normalized_to
 unnormalized h m n None c = (refl, (refl, (refl, (refl, tt))))
 unnormalized h m n (Some o) c = go (o.current_term <? m) refl c
   where
     go : (b : Bool) → (o.current_term <? m) ≡ b
-        → Clear (hard_state_successor_rows h (Some (if b then record { current_term = m; voted_for = None; commit = o.commit } else o)))
-        → Clear (hard_state_successor_rows h (Some o))
+        → MayFollow h (Some (if b then record { current_term = m; voted_for = None; commit = o.commit } else o))
+        → MayFollow h (Some o)
     go false e c = c
     go true e c =
         let up : o.current_term < h.current_term = omega (arith, ltb-true o.current_term m e, ltb-false h.current_term m c.0) in
         let ne : (h.current_term =? o.current_term) ≡ false = ne_eqb h.current_term o.current_term (λ q. omega (arith, up, q)) in
         (le-ltb h.current_term o.current_term (omega (arith, up)), (c.1.0, (rw ne, (rw ne, tt))))
 
-finished_follows : (h : HardState) (log : Log ℕ) → Clear (hard_state_successor_rows h (normalize_hard_state_term log).hard_state)
-    → Clear (hard_state_successor_rows h log.hard_state)
+finished_follows : (h : HardState) (log : Log ℕ) → MayFollow h (normalize_hard_state_term log).hard_state
+    → MayFollow h log.hard_state
 unfolding normalize_hard_state_term with_hard normalized_hard_state
 finished_follows h log c = go (maximum_observed_term log =? 0) c
   where
     go : (b : Bool)
-        → Clear (hard_state_successor_rows h (if b then log.hard_state else Some (normalized_to (maximum_observed_term log) log.committed_index log.hard_state)))
-        → Clear (hard_state_successor_rows h log.hard_state)
+        → MayFollow h (if b then log.hard_state else Some (normalized_to (maximum_observed_term log) log.committed_index log.hard_state))
+        → MayFollow h log.hard_state
     go true c = c
     go false c = unnormalized h (maximum_observed_term log) log.committed_index log.hard_state c
 
@@ -361,6 +381,7 @@ read_back w e i b end k ws c = go c.accepted
 
 pub read_back_from_empty : ReadBackFromEmpty
 read_back_from_empty rs m i b end k ws c =
-    let few : (state_after fresh_state rs).scanned_records < u64_max = omega (arith, c.admitted.counts, ap (λ (s : State). s.scanned_records) (observed_state rs)) in
+    let few : (state_after fresh_state rs).scanned_records < u64_max =
+    omega (arith, c.admitted.counts, ap (λ (s : State). s.scanned_records) (observed_state rs)) in
     read_back (observed fresh rs)
     (ap sound (observed_fresh rs) ∙ laid_sound (state_after fresh_state rs) (sound_while_counted fresh_state rs fresh_sound m few)) i b end k ws c

@@ -47,7 +47,8 @@ not_full : (was : Option (Log ℕ)) (n : ℕ) → (is_some was || n <? 8) ≡ tr
 not_full (Some log) n e = (and-false (8 ≤? n), tt)
 not_full None n e = (rw (lt-leb 8 n (ltb-true n 8 e)), tt)
 
-module _ (s : State) (i : Identity) (k : Kind) (t : ℕ) (f : Clear (form_rows i k)) (q : Clear (rows i k (replica_of i s))) (room : room_for i s ≡ true) where
+module _ (s : State) (i : Identity) (k : Kind) (t : ℕ) (f : Clear (form_rows i k)) (q : Clear (rows i k (replica_of i s)))
+    (room : room_for i s ≡ true) where
   abbrev full : Bool
   full = 8 ≤? length s.replicas
 
@@ -83,7 +84,10 @@ module _ (s : State) (i : Identity) (r : Record) (d : Steady s) (n : s.scanned_r
   takes_content (Some (j, k)) e (same_id, form, clear) =
       record {
         answered = ap (λ (o : Out State). is_accepted o.answer) is ∙ ap (λ o. not (is_some o)) (answer_to_accepted k was);
-        own = ap (λ (o : Out State). replica_of i o.next) is ∙ ap (λ (o : Option (Log ℕ)). unwrap_or o empty) found ∙ sym (ap (λ (c : Content). onward c r.lsn was) e);
+        own =
+            ap (λ (o : Out State). replica_of i o.next) is
+            ∙ ap (λ (o : Option (Log ℕ)). unwrap_or o empty) found
+            ∙ sym (ap (λ (c : Content). onward c r.lsn was) e);
         there = ap (λ (o : Out State). is_some (lookup i o.next.replicas)) is ∙ ap is_some found;
         others = λ j a. ap (λ (o : Out State). lookup j o.next.replicas) is ∙ rw (lookup_put, a);
         steady = subst (λ (o : Out State). Steady o.next) (sym is_routed) (routed_steady s r.lsn (content r) d up m);
