@@ -108,9 +108,9 @@ def some_input(rng):
     owners = rng.sample(REPLICAS, 8 if eight else rng.randint(1, 3))
     whose = owners[0] if eight or rng.random() < 0.9 else rng.choice(REPLICAS)
     makers = some_entry, some_hard_state, some_pointer, lambda rng, log: ('F',)
-    order = [(owner, some_entry) for owner in owners] * eight
+    order = [(owner, some_entry) for owner in owners] * eight    # so that all eight are held
     order += [(rng.choice(owners), maker) for maker in rng.choices(makers, (12, 4, 3, 1), k=rng.randrange(20))]
-    order += [(whose, maker) for maker in (some_entry, *makers[:3])] * (rng.random() < 0.2)
+    order += [(whose, maker) for maker in (some_entry, *makers[:3])] * (rng.random() < 0.2)    # two entries, a hard state, a pointer
     for owner, maker in order:
         log = logs.get(owner, EMPTY)
         records.append((owner, maker(rng, log)))
