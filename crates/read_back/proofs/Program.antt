@@ -25,14 +25,15 @@ use Rattle.soundness.proofs.Fresh.{fresh_test}
 use Rattle.finishing.specs.declared.Finished.{Finished}
 use Rattle.finishing.specs.Finishes.{Finishes}
 use Rattle.routing.specs.Observe.{journal_of}
-use Rattle.recovery.specs.Runs.{chunk_of}
+use Rattle.recovery.specs.declared.observing.ObservedChunk.{ObservedChunk}
+use Rattle.recovery.specs.Runs.{chunk_of, Runs}
 use Rattle.recovery.specs.Program.{state_after_calls, store_after_calls}
 use Rattle.recovery.proofs.Program.{Left, calls_are}
 use Rattle.arrayvec.specs.ArrayVec.{ArrayVec}
 use Rattle.persistence.specs.declared.PreparedRecord.{PreparedRecord}
 use Rattle.persistence.specs.Answer as A
 use Rattle.persistence.specs.Answer.{bodies_of, said_by, bodies_in, PreparesBatch}
-use Rattle.read_back.specs.Program.{Asked, owner_of, batch_in, Prepared, unfinished, finished, ProgramReadBack, ProgramReadBackFromEmpty}
+use Rattle.read_back.specs.Program.{Asked, owner_of, batch_in, Journal, Prepared, unfinished, finished, Written, ReadsBack, ProgramReadBack, ProgramReadBackFromEmpty}
 
 -- An answer that is not a refusal was given on a state and a store that are sound, and is the definition's.
 record Told (w : Recovery) (a : Asked) (l : ArrayVec PreparedRecord) : Type 0 where
@@ -79,7 +80,8 @@ comes s st a l (unfinished p pst same k) =
 comes s st a l (finished p pst f same fin k) =
     let t : Told (recovery_of f.state pst) a l = told f.state pst a l k in
     let next : (finish (recovery_of s st)).next ≡ recovery_of f.state pst =
-    ap (λ (w : Recovery). (finish w).next) (sym same) ∙ ap (λ (o : Out Recovery). o.next) (fin.means (finished_test p pst f fin (answered_sound f.state pst a l k))) in
+    ap (λ (w : Recovery). (finish w).next) (sym same)
+    ∙ ap (λ (o : Out Recovery). o.next) (fin.means (finished_test p pst f fin (answered_sound f.state pst a l k))) in
     record { preview = t.preview; is = inr (ap (λ (w : Recovery). M.prepare w (owner_of a) (batch_in a)) next ∙ t.is); says = t.says }
 
 -- What the journal says.
@@ -92,8 +94,11 @@ said_contents zero p = refl
 said_contents (suc k) [] = refl
 said_contents (suc k) (x ∷ p) = ap {B = List Content} (λ l. Some x ∷ l) (said_contents k p)
 
-pub program_read_back : ProgramReadBack
-program_read_back s st a l k j c st' tested w r =
+-- What observing does with them, where the answer comes of a preview.
+back : (s : RecoveredRaftStorage) (st : List ℕ) (a : Asked) (l : ArrayVec PreparedRecord) (k : ℕ) (j : Journal) (c : ObservedChunk) (st' : List ℕ)
+    → sound_test s st ≡ true → Comes (recovery_of s st) a l → Written s st a l k j → Runs s st j.records j.lent c st'
+    → ReadsBack s st a l k j c st'
+back s st a l k j c st' tested m w r =
     record {
       taken = ap (λ (x : Chunk). x.taken) (sym chunk) ∙ whole_taken before records none ∙ length-map j.records (λ x. record_of x j.lent);
       accepted = ap (λ (x : Chunk). x.ended) (sym chunk) ∙ none;
@@ -108,9 +113,6 @@ program_read_back s st a l k j c st' tested w r =
 
     records : List Record
     records = journal_of j.records j.lent
-
-    m : Comes before a l
-    m = comes s st a l w.accepted
 
     whole : (b : Bool) → sound before ≡ b → b ≡ true
     whole true e = refl
@@ -137,6 +139,9 @@ program_read_back s st a l k j c st' tested w r =
 
     left : meaning c.state st' ≡ (observed before records).state
     left = ap (λ (x : Chunk). x.left.state) (sym chunk) ∙ ap (λ (x : Recovery). x.state) (whole_left before records none)
+
+pub program_read_back : ProgramReadBack
+program_read_back s st a l k j c st' tested w r = back s st a l k j c st' tested (comes s st a l w.accepted) w r
 
 pub program_read_back_from_empty : ProgramReadBackFromEmpty
 program_read_back_from_empty cs kept few a l k j c st' w r =

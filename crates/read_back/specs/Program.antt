@@ -49,7 +49,8 @@ pub record Journal : Type 0 where
 -- `prepare_batch` answered l, on a state and a store that mean what s and st mean, or when `finish` had been called on such.
 pub data Prepared (s : RecoveredRaftStorage) (st : List ℕ) (a : Asked) (l : ArrayVec PreparedRecord) : Type 0 where
   unfinished :
-      (p : RecoveredRaftStorage) (pst : List ℕ) → recovery_of p pst ≡ recovery_of s st → PreparesBatch p pst a.owner a.batch a.lent (Ok l) → Prepared s st a l
+      (p : RecoveredRaftStorage) (pst : List ℕ) → recovery_of p pst ≡ recovery_of s st → PreparesBatch p pst a.owner a.batch a.lent (Ok l)
+      → Prepared s st a l
   finished :
       (p : RecoveredRaftStorage) (pst : List ℕ) (f : Finished) → recovery_of p pst ≡ recovery_of s st → Finishes p pst f
       → PreparesBatch f.state pst a.owner a.batch a.lent (Ok l)
@@ -63,12 +64,15 @@ pub record Written (s : RecoveredRaftStorage) (st : List ℕ) (a : Asked) (l : A
 
 -- `observe_records` answers c and leaves the store st': all are accepted, and what is left is as the definition's `Left` says of the
 -- batch's preview.
-pub record ReadsBack (s : RecoveredRaftStorage) (st : List ℕ) (a : Asked) (l : ArrayVec PreparedRecord) (k : ℕ) (j : Journal) (c : ObservedChunk) (st' : List ℕ)
+pub record ReadsBack (s : RecoveredRaftStorage) (st : List ℕ) (a : Asked) (l : ArrayVec PreparedRecord) (k : ℕ) (j : Journal)
+    (c : ObservedChunk) (st' : List ℕ)
     : Type 0 where
   pub taken : c.taken ≡ length j.records
   pub accepted : refusal_of (answer_of c.answer) ≡ None
   pub preview : M.Preview
-  pub comes : (M.prepare (recovery_of s st) (owner_of a) (batch_in a) ≡ Ok preview) ⊎ (M.prepare (finish (recovery_of s st)).next (owner_of a) (batch_in a) ≡ Ok preview)
+  pub comes :
+      (M.prepare (recovery_of s st) (owner_of a) (batch_in a) ≡ Ok preview)
+      ⊎ (M.prepare (finish (recovery_of s st)).next (owner_of a) (batch_in a) ≡ Ok preview)
   pub as_many : length l.items ≡ length preview.records
   pub left : Left (meaning s st) (meaning c.state st') (owner_of a) (batch_in a) preview k
 
