@@ -3,20 +3,22 @@ use crate::reading::{Asked, Shows};
 use ids::{Lsn, Refusal};
 use readers::SoundStorage;
 use shown::Shown;
+use std::io::Write;
 use storage::RecoveredRaftStorage;
+use streams::Failed;
 use tables::Output;
 use text::command::Commands;
 
-pub fn print_malformed(rt: &impl Print, line: u64) -> std::io::Result<()> {
+pub fn print_malformed(to: &mut impl Write, line: u64) -> Result<(), Failed> {
     let mut out = Output::new();
     tables::write_malformed(line, &mut out);
-    rt.write_all(out.as_slice())
+    streams::write(to, out.as_slice())
 }
 
-pub fn print_journal_refused(rt: &impl Print, lsn: Lsn, why: Refusal) -> std::io::Result<()> {
+pub fn print_journal_refused(to: &mut impl Write, lsn: Lsn, why: Refusal) -> Result<(), Failed> {
     let mut out = Output::new();
     batch_tables::write_journal_refused(lsn.0, why.number(), &mut out);
-    rt.write_all(out.as_slice())
+    streams::write(to, out.as_slice())
 }
 
 fn is_of_batch(at: Option<Shown>) -> bool {
@@ -36,7 +38,7 @@ struct Answer<'a> {
 }
 
 impl<'a> Answer<'a> {
-    fn print_prepared(&self, rt: &impl Print) -> std::io::Result<()> {
+    fn print_prepared(&self, to: &mut impl Write) -> Result<(), Failed> {
         let commands = self.commands;
         let batch = self.asked.given.batch();
         let prepared = lent::prepare_batch(
@@ -56,10 +58,10 @@ impl<'a> Answer<'a> {
             &commands.bytes,
             &mut out,
         );
-        rt.write_all(out.as_slice())
+        streams::write(to, out.as_slice())
     }
 
-    fn print_shown(&self, rt: &impl Print, index: u64) -> std::io::Result<()> {
+    fn print_shown(&self, to: &mut impl Write, index: u64) -> Result<(), Failed> {
         let state = *self.state;
         let identity = self.asked.identity;
         let batch = self.asked.given.batch();
@@ -68,37 +70,37 @@ impl<'a> Answer<'a> {
         let bytes = shown::previewed_command(state, self.store, identity, batch, lent, index);
         let mut out = Output::new();
         batch_tables::write_shown(index, is_of_batch(at), bytes, &mut out);
-        rt.write_all(out.as_slice())
+        streams::write(to, out.as_slice())
     }
 
-    fn print_shows(&self, rt: &impl Print, shows: &Shows) -> std::io::Result<()> {
+    fn print_shows(&self, to: &mut impl Write, shows: &Shows) -> Result<(), Failed> {
         for &index in shows.as_slice() {
-            self.print_shown(rt, index)?;
+            self.print_shown(to, index)?;
         }
         Ok(())
     }
 
     // Where no minimum recovery LSN can be read there is none.
-    fn print_minimum(&self, rt: &impl Print) -> std::io::Result<()> {
+    fn print_minimum(&self, to: &mut impl Write) -> Result<(), Failed> {
         let lsn = match SoundStorage::new(self.state, self.store) {
             Ok(sound) => sound.minimum_recovery_lsn(self.asked.identity),
             Err(_) => None,
         };
         let mut out = Output::new();
         batch_tables::write_minimum(lsn, &mut out);
-        rt.write_all(out.as_slice())
+        streams::write(to, out.as_slice())
     }
 }
 
 // The recovery, finished where that was asked.
 pub fn print_answer(
-    rt: &impl Print,
+    to: &mut impl Write,
     recovered: RecoveredRaftStorage,
     asked: &Asked,
     commands: &Commands,
     store: &[u8],
     shows: &Shows,
-) -> std::io::Result<()> {
+) -> Result<(), Failed> {
     let state = if asked.finish {
         finishing::finish(recovered, store).state
     } else {
@@ -111,6 +113,6 @@ pub fn print_answer(
         commands,
     };
     answer.print_prepared(rt)?;
-    answer.print_shows(rt, shows)?;
-    answer.print_minimum(rt)
+    answer.print_shows(to, shows)?;
+    answer.print_minimum(to)
 }

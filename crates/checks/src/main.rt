@@ -9,7 +9,9 @@ use codec::{HardState, RaftSnapshotPointerRecord};
 use frontier::RaftProgress;
 use ids::Refusal;
 use std::io;
-use std::io::{Read, Stdin};
+use std::io::{Read, Write};
+use std::process::ExitCode;
+use streams::Failed;
 use text::field::{Field, Sum};
 use text::record;
 
@@ -182,26 +184,26 @@ fn answer(line: &Line) -> Answer {
     }
 }
 
-fn print(rt: &impl Print, answer: Answer) -> io::Result<()> {
+fn print(to: &mut impl Write, answer: Answer) -> io::Result<()> {
     match answer {
-        None => println!(rt; "malformed"),
-        Some(Ok(())) => println!(rt; "ok"),
-        Some(Err(why)) => println!(rt; "refused {}", why.number()),
+        None => writeln!(to, "malformed"),
+        Some(Ok(())) => writeln!(to, "ok"),
+        Some(Err(why)) => writeln!(to, "refused {}", why.number()),
     }
 }
 
 // The line ends, and is answered.
-fn end_line(rt: &impl Print, line: &mut Line) -> io::Result<()> {
+fn end_line(to: &mut impl Write, line: &mut Line) -> Result<(), Failed> {
     line.close();
-    print(rt, answer(line))?;
+    print(to, answer(line)).or(Err(Failed::Output))?;
     *line = Line::blank();
     Ok(())
 }
 
-fn read_bytes(rt: &impl Print, line: &mut Line, bytes: &[u8]) -> io::Result<()> {
+fn read_bytes(to: &mut impl Write, line: &mut Line, bytes: &[u8]) -> Result<(), Failed> {
     for &b in bytes {
         if b == b'\n' {
-            end_line(rt, line)?;
+            end_line(to, line)?;
         } else {
             line.push(b);
         }
@@ -210,27 +212,34 @@ fn read_bytes(rt: &impl Print, line: &mut Line, bytes: &[u8]) -> io::Result<()> 
 }
 
 // One read of standard input: how many bytes it gave.
-fn read_some(rt: &impl Print, stdin: &mut Stdin, line: &mut Line) -> io::Result<usize> {
+fn read_some(
+    to: &mut impl Write,
+    stdin: &mut impl Read,
+    line: &mut Line,
+) -> Result<usize, Failed> {
     let mut buf = [0u8; 4096];
-    let n = stdin.read(&mut buf)?;
-    read_bytes(rt, line, &buf[..n])?;
+    let n = stdin.read(&mut buf).or(Err(Failed::Input))?;
+    read_bytes(to, line, &buf[..n])?;
     Ok(n)
 }
 
 // All of standard input. A proved loop has to end: no run uses up so many turns.
-fn read_all(rt: &impl Print, stdin: &mut Stdin) -> io::Result<()> {
+fn read_all(to: &mut impl Write, stdin: &mut impl Read) -> Result<(), Failed> {
     let mut line = Line::blank();
     for _ in 0..u64::MAX {
-        if read_some(rt, stdin, &mut line)? == 0 {
+        if read_some(to, stdin, &mut line)? == 0 {
             break;
         }
     }
     if line.current.is_some() {
-        end_line(rt, &mut line)?;
+        end_line(to, &mut line)?;
     }
     Ok(())
 }
 
-fn main(rt: HostRuntime) -> io::Result<()> {
-    read_all(&rt, &mut rt.stdin())
+fn main(rt: HostRuntime) -> ExitCode {
+    streams::end(
+        rt,
+        read_all(&mut streams::stdout(rt), &mut streams::stdin(rt)),
+    )
 }

@@ -100,10 +100,5 @@ abbrev pub body_of : Option RaftWalRecord → List ℕ → D.Body
 body_of None lent = D.foreign
 body_of (Some k) lent = D.raft (owner_of k) (kind_of k lent)
 
--- The form checks of a body; one of no Raft kind has none.
-abbrev pub body_rows : D.Body → List Row
-body_rows D.foreign = []
-body_rows (D.raft i k) = D.form_rows i k
-
 abbrev pub record_of : WalRecord → List ℕ → D.Record
 record_of r lent = record { lsn = r.lsn.0; body = body_of r.body lent }

@@ -7,7 +7,7 @@ ghost use Rattle.definition.specs.Records.{command_of, normal, unfit as isUnfit,
 ghost use Rattle.definition.specs.Log.{hard_state_successor_rows, validate_hard_state_successor, validate_snapshot_successor};
 ghost use Rattle.ids.specs.Identity.{identity_of};
 ghost use Rattle.ids.specs.Refusal.{checked_of};
-ghost use Rattle.codec.specs.Records.{payload_of, hard_state_of, maybe_hard_state_of, pointer_record_of, maybe_pointer_of, entry_kind_of, field_rows, hard_state_kind_of, pointer_kind_of, kind_of, owner_of, body_rows, record_of};
+ghost use Rattle.codec.specs.Records.{payload_of, hard_state_of, maybe_hard_state_of, pointer_record_of, maybe_pointer_of, entry_kind_of, field_rows, hard_state_kind_of, pointer_kind_of, kind_of, owner_of};
 
 use ids::{Lsn, RaftReplicaIdentity, Refusal, ReplicaId};
 
@@ -256,16 +256,6 @@ pub fn validate_form(kind: RaftWalRecord, lent: &[u8]) -> Result<(), Refusal>
         RaftWalRecord::HardState(h) => validate_hard_state(h),
         RaftWalRecord::SnapshotPointer(p) => validate_pointer(p),
     }
-}
-
-// The form of a record of the journal: one of no Raft kind has none.
-pub fn validate_record(r: WalRecord, lent: &[u8]) -> Result<(), Refusal>
-    ensures { checked_of result ≡ first_of (body_rows (record_of r lent.now).body) }
-{
-    let Some(kind) = r.body else {
-        return Ok(());
-    };
-    validate_form(kind, lent)
 }
 
 // What a hard state may not do to `old` (33 to 36). A vote may neither change nor go in one term.

@@ -9,11 +9,12 @@ use native.Mathlib.Omega.{arith}
 use lib.ListN.{length, take, length-take, length-map}
 use borrow.Author.Tests.{ltb-true, ltb-false, le-ltb, not-false, ne_eqb}
 use Rattle.std.specs.Prelude.{Option, None, Some, option_map, unwrap_or, if◌then◌else◌, Ok}
-use Rattle.definition.specs.Table.{Row, ◌=?◌, ◌<?◌, ◌≤?◌, if_some, is_some, u64_max}
+use Rattle.definition.specs.Table.{every, Row, ◌=?◌, ◌<?◌, ◌≤?◌, if_some, is_some, u64_max}
 use Rattle.definition.specs.Records.{Identity, same, LogEntry, HardState, Pointer, Kind, entry, hard_state, pointer, form_rows, Content, content, Record}
 use Rattle.definition.specs.Log.{Log, PointerRecord, hard_state_successor_rows, snapshot_successor_rows, install_rows, rows, raised_by, empty, with_entry, with_hard_state, with_pointer, with_hard, accept, largest_term, maximum_observed_term, normalized_to, normalized_hard_state, normalize_hard_state_term}
 use Rattle.definition.specs.Batch.{BatchEntry, Batch, Prepared, Preview, preview_entry, preview_pointer, preview_hard_state, prepare, batch_pointer_rows, batch_entry_rows, batch_hard_state_rows, batch_rows, concluded, hardened, extended, pointed, prepare_on}
 use Rattle.definition.specs.Recovery.{lookup, Out, State, fresh_state, Recovery, fresh, sound, normalized, normalized_state, observed, answers, finish, state_answers, state_after, replica_of}
+use Rattle.definition.specs.Two.{fits}
 use Rattle.definition.specs.ReadBack.{commits_less, Written, SameEntries, Left, ReadsBack, ReadBack, ReadBackFromEmpty}
 use Rattle.definition.proofs.Laws.{contra, Clear, clear_l, clear_r, clear_i}
 use Rattle.definition.proofs.Order.{same_eq, lookup_map}
@@ -242,64 +243,66 @@ read_count : (ws : List Record) (k : ℕ) (p : Prepared) → map content ws ≡ 
 read_count ws k p e = sym (length-map ws content) ∙ ap length e ∙ length-map (take k p) Some ∙ length-take k p
 
 -- The records of a batch, read back on a sound recovery.
-module _ (w : Recovery) (e : sound w ≡ true) (i : Identity) (b : Batch) (end : Preview) (k : ℕ) (ws : List Record) (c : Written w i b end k ws) where
-  -- The log that the batch was prepared on differs from the recovery's in LSNs and hard state alone.
-  record PreparedOn (was : Log ℕ) : Type 0 where
-    comes : prepare_on i b was ≡ Ok end
-    alike : Alike was (replica_of i w.state)
-    tied : was.progress.truncated_through_index ≡ was.snapshot_index
-    follows : (h : HardState) → MayFollow h was.hard_state → MayFollow h (replica_of i w.state).hard_state
+module _ (w : Recovery) (e : sound w ≡ true) (i : Identity) (b : Batch) (end : Preview) (k : ℕ) (ws : List Record) (m : every fits ws ≡ true)
+    (c : Written w i b end k ws)
+  where
+    -- The log that the batch was prepared on differs from the recovery's in LSNs and hard state alone.
+    record PreparedOn (was : Log ℕ) : Type 0 where
+      comes : prepare_on i b was ≡ Ok end
+      alike : Alike was (replica_of i w.state)
+      tied : was.progress.truncated_through_index ≡ was.snapshot_index
+      follows : (h : HardState) → MayFollow h was.hard_state → MayFollow h (replica_of i w.state).hard_state
 
-  observed_is : (observed w ws).state ≡ state_after w.state ws
-  unfolding laid
-  observed_is = ap (λ (x : Recovery). (observed x ws).state) (is_laid w e) ∙ ap (λ (x : Recovery). x.state) (observed_laid w.state ws)
+    observed_is : (observed w ws).state ≡ state_after w.state ws
+    unfolding laid
+    observed_is = ap (λ (x : Recovery). (observed x ws).state) (is_laid w e) ∙ ap (λ (x : Recovery). x.state) (observed_laid w.state ws)
 
-  answers_are : answers w ws ≡ state_answers w.state ws
-  answers_are = ap (λ (x : Recovery). answers x ws) (is_laid w e) ∙ answers_laid w.state ws
+    answers_are : answers w ws ≡ state_answers w.state ws
+    answers_are = ap (λ (x : Recovery). answers x ws) (is_laid w e) ∙ answers_laid w.state ws
 
-  -- Its commit is not below the view's, there is room for the replica, and for as many records as a batch has.
-  commits_enough : (was : Log ℕ) → Alike was (replica_of i w.state) → commits_less b was ≡ false
-  commits_enough was a =
-      ap (λ (n : ℕ). if_some (λ (h : HardState). h.commit <? n) b.hard_state) (commit_alike was (replica_of i w.state) a) ∙ c.admitted.commit
+    -- Its commit is not below the view's, there is room for the replica, and for as many records as a batch has.
+    commits_enough : (was : Log ℕ) → Alike was (replica_of i w.state) → commits_less b was ≡ false
+    commits_enough was a =
+        ap (λ (n : ℕ). if_some (λ (h : HardState). h.commit <? n) b.hard_state) (commit_alike was (replica_of i w.state) a) ∙ c.admitted.commit
 
-  room : room_for i w.state ≡ true
-  room = c.admitted.room
+    room : room_for i w.state ≡ true
+    room = c.admitted.room
 
-  counted : (n : ℕ) → n ≤ 34 → w.state.scanned_records + n ≤ u64_max
-  counted n h = omega (arith, c.admitted.counts)
+    counted : (n : ℕ) → n ≤ 34 → w.state.scanned_records + n ≤ u64_max
+    counted n h = omega (arith, c.admitted.counts)
 
-  back : (was : Log ℕ) → PreparedOn was → ReadsBack w i b end k ws
-  unfolding batch_rows
-  back was o =
-      record {
-        accepted = rw answers_are t.accepted;
-        left =
-            subst (λ (x : State). Left w.state x i b end k) (sym observed_is)
-            (record { others = t.others; same_entries = λ n. rw t.own (all n).entries; hard_state = λ n h. rw t.own ((all n).hard h) });
-      }
-    where
-      p : Prepared
-      p = batch_records i b
+    back : (was : Log ℕ) → PreparedOn was → ReadsBack w i b end k ws
+    unfolding batch_rows
+    back was o =
+        record {
+          accepted = rw answers_are t.accepted;
+          left =
+              subst (λ (x : State). Left w.state x i b end k) (sym observed_is)
+              (record { others = t.others; same_entries = λ n. rw t.own (all n).entries; hard_state = λ n h. rw t.own ((all n).hard h) });
+        }
+      where
+        p : Prepared
+        p = batch_records i b
 
-      apart : Passed i b was end
-      apart = take_apart i b was end o.comes
+        apart : Passed i b was end
+        apart = take_apart i b was end o.comes
 
-      x : End i b was end (replica_of i w.state) p ws
-      x =
-          pointed_end i b was end apart.whole.0 apart.whole.1.0 (replica_of i w.state) o.alike o.tied (commits_enough was o.alike) o.follows b.snapshot refl
-          apart.begin apart.on_was apart.goes ws
-          (subst (Begins ws) apart.records (begins ws k end.records c.first_k))
+        x : End i b was end (replica_of i w.state) p ws
+        x =
+            pointed_end i b was end apart.whole.0 apart.whole.1.0 (replica_of i w.state) o.alike o.tied (commits_enough was o.alike) o.follows b.snapshot refl
+            apart.begin apart.on_was apart.goes ws
+            (subst (Begins ws) apart.records (begins ws k end.records c.first_k))
 
-      count : length ws ≡ min k (length p)
-      count = read_count ws k end.records c.first_k ∙ ap (λ (q : Prepared). min k (length q)) apart.records
+        count : length ws ≡ min k (length p)
+        count = read_count ws k end.records c.first_k ∙ ap (λ (q : Prepared). min k (length q)) apart.records
 
-      t : Took w.state i ws
-      t =
-          took w.state i ws (state_steady w.state (state_sound w e)) (counted (length ws) (omega (arith, count, few_records i b was apart.whole)))
-          c.admitted.rising c.admitted.machine room x.taken
+        t : Took w.state i ws
+        t =
+            took w.state i ws (state_steady w.state (state_sound w e)) (counted (length ws) (omega (arith, count, few_records i b was apart.whole)))
+            c.admitted.rising m room x.taken
 
-      all : length end.records ≤ k → Whole i b was end end (fold_log (replica_of i w.state) ws)
-      all n = x.whole (omega (arith, n, count, ap length apart.records))
+        all : length end.records ≤ k → Whole i b was end end (fold_log (replica_of i w.state) ws)
+        all n = x.whole (omega (arith, n, count, ap length apart.records))
 
 -- Finishing changes the hard state alone, and what may follow it may follow the one before.
 unnormalized : (h : HardState) (m n : ℕ) (o : Option HardState) → MayFollow h (Some (normalized_to m n o)) → MayFollow h o
@@ -351,7 +354,7 @@ finished_replica i s =
 
 pub read_back : ReadBack
 unfolding laid
-read_back w e i b end k ws c = go c.accepted
+read_back w e i b end k ws m c = go c.accepted
   where
     log : Log ℕ
     log = replica_of i w.state
@@ -369,9 +372,9 @@ read_back w e i b end k ws c = go c.accepted
     finished_log = ap (λ (x : Recovery). replica_of i x.state) next_is ∙ finished_replica i w.state
 
     go : (prepare w i b ≡ Ok end) ⊎ (prepare next i b ≡ Ok end) → ReadsBack w i b end k ws
-    go (inl p) = back w e i b end k ws c log (record { comes = sym (prepare_sound w i b e) ∙ p; alike = refl; tied = tied; follows = λ h x. x })
+    go (inl p) = back w e i b end k ws m c log (record { comes = sym (prepare_sound w i b e) ∙ p; alike = refl; tied = tied; follows = λ h x. x })
     go (inr p) =
-        back w e i b end k ws c (normalize_hard_state_term log)
+        back w e i b end k ws m c (normalize_hard_state_term log)
         (record {
           comes = ap (prepare_on i b) (sym finished_log) ∙ sym (prepare_sound next i b (finish_sound w e)) ∙ p;
           alike = finished_alike log;
@@ -380,8 +383,8 @@ read_back w e i b end k ws c = go c.accepted
         })
 
 pub read_back_from_empty : ReadBackFromEmpty
-read_back_from_empty rs m i b end k ws c =
+read_back_from_empty rs fit i b end k ws m c =
     let few : (state_after fresh_state rs).scanned_records < u64_max =
     omega (arith, c.admitted.counts, ap (λ (s : State). s.scanned_records) (observed_state rs)) in
     read_back (observed fresh rs)
-    (ap sound (observed_fresh rs) ∙ laid_sound (state_after fresh_state rs) (sound_while_counted fresh_state rs fresh_sound m few)) i b end k ws c
+    (ap sound (observed_fresh rs) ∙ laid_sound (state_after fresh_state rs) (sound_while_counted fresh_state rs fresh_sound fit few)) i b end k ws m c

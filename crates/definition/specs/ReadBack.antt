@@ -22,12 +22,11 @@ pub record Admits (w : Recovery) (i : Identity) (b : Batch) (ws : List Record) :
   pub commit : commits_less b (replica_of i w.state) ≡ false
   -- "if the identity is already held or fewer than 8 replicas are"
   pub room : (is_some (lookup i w.state.replicas) || length w.state.replicas <? 8) ≡ true
-  -- "and the .. scanned count [is] at least 34 below 2^64 - 1". The last scanned LSN has to be only so that there are 34 LSNs above it.
+  -- "and the .. scanned count [is] at least 34 below 2^64 - 1". Of "the last scanned LSN" the same is not asked: that LSNs rise above it
+  -- says that there are as many as the records need.
   pub counts : w.state.scanned_records + 34 ≤ u64_max
   -- "written under rising LSNs above the last scanned"
   pub rising : Rising w.state.last_scanned_lsn ws
-  -- Machines' records.
-  pub machine : every fits ws ≡ true
 
 -- A batch of the replica i that was accepted, and a journal ws that goes on with the first k records of its answer.
 pub record Written (w : Recovery) (i : Identity) (b : Batch) (v : Preview) (k : ℕ) (ws : List Record) : Type 0 where
@@ -63,15 +62,16 @@ pub record ReadsBack (w : Recovery) (i : Identity) (b : Batch) (v : Preview) (k 
   pub accepted : all_accepted (answers w ws) ≡ true
   pub left : Left w.state (observed w ws).state i b v k
 
--- On any sound recovery.
+-- On any sound recovery. The records are machines' (`fits`).
 abbrev pub ReadBack : Type 0
 ReadBack =
-    (w : Recovery) → sound w ≡ true → (i : Identity) (b : Batch) (v : Preview) (k : ℕ) (ws : List Record) → Written w i b v k ws
+    (w : Recovery) → sound w ≡ true → (i : Identity) (b : Batch) (v : Preview) (k : ℕ) (ws : List Record) → every fits ws ≡ true
+    → Written w i b v k ws
     → ReadsBack w i b v k ws
 
 -- "take a replica in a state reached from empty by accepted records". That all were accepted is not asked.
 abbrev pub ReadBackFromEmpty : Type 0
 ReadBackFromEmpty =
-    (rs : List Record) → every fits rs ≡ true → (i : Identity) (b : Batch) (v : Preview) (k : ℕ) (ws : List Record)
+    (rs : List Record) → every fits rs ≡ true → (i : Identity) (b : Batch) (v : Preview) (k : ℕ) (ws : List Record) → every fits ws ≡ true
     → Written (observed fresh rs) i b v k ws
     → ReadsBack (observed fresh rs) i b v k ws

@@ -6,7 +6,6 @@ use mathlib.Core.List.{List}
 use Prim.Native.Nat.{ℕ, ◌+◌, ◌<◌, ◌≤◌}
 use native.Mathlib.Omega.{arith}
 use lib.ListN.{length}
-use Rattle.definition.specs.Log as D
 use Rattle.definition.specs.Recovery.{out}
 use Rattle.definition.proofs.Store.{finish_unsound}
 use Rattle.view.specs.declared.Header.{Header}
@@ -16,7 +15,7 @@ use Rattle.finishing.specs.declared.Finished.{Finished}
 use Rattle.storage.specs.Model.{head_at, entries_in, headed, finished_head, finished_to, finished_storage}
 use Rattle.storage.specs.Meaning.{recovery_of}
 use Rattle.soundness.specs.Sound.{sound_test, Limits}
-use Rattle.finishing.specs.Finishes.{finished_done, unsound_done, Finishes}
+use Rattle.finishing.specs.Finishes.{finished_of, finished_done, unsound_done, Finishes}
 use Rattle.storage.proofs.Finish.{finish_none, finish_one, finish_next}
 use Rattle.soundness.proofs.Sound.{test_linked, test_state, test_sound}
 use Rattle.routing.proofs.Observe.{finished_is, finished_test}
@@ -57,7 +56,7 @@ finishes_sound s st d eight all q e =
     let o = test_state s st eight all q in
     record {
       model = e ∙ sym (ap (λ (b : Bool). cond b (finished_done s) (unsound_done s)) q);
-      means = λ q'. finished_is s st k o ∙ sym (ap (λ (x : Finished). out D.finished (recovery_of x.state st)) e);
+      means = λ q'. finished_is s st k o ∙ sym (ap (λ (x : Finished). out (finished_of x.answer) (recovery_of x.state st)) e);
       stays = λ q'. ap (λ (x : Finished). sound_test x.state st) e ∙ finished_test s st k o;
       refused = λ q'. absurd (true≢false (sym q ∙ q'));
       kept = λ q'. absurd (true≢false (sym q ∙ q'));
@@ -72,5 +71,5 @@ finishes_unsound s st d q e =
       stays = λ q'. absurd (true≢false (sym q' ∙ q));
       refused = λ q'. ap (λ (x : Finished). x.answer) e;
       kept = λ q'. ap (λ (x : Finished). x.state) e;
-      unsound = λ q'. finish_unsound (recovery_of s st) q' ∙ sym (ap (λ (x : Finished). out (D.refused 1) (recovery_of x.state st)) e);
+      unsound = λ q'. finish_unsound (recovery_of s st) q' ∙ sym (ap (λ (x : Finished). out (finished_of x.answer) (recovery_of x.state st)) e);
     }

@@ -2,29 +2,29 @@
 ghost use Rattle.std.specs.Prelude.{◌≤◌, IfSome};
 
 use codec::WalRecord;
-use std::io;
 use std::io::{Read, Stdin};
+use streams::{Failed, Retrying};
 use text::command::Command;
 use text::line::Line;
 use text::record;
 
-// Standard input through a buffer. A read that fails counts as the input's end, and its error is kept. The library's BufReader asks for
-// a heap.
+// Standard input through a buffer. Behind a read that failed nothing more is read, and that it failed is kept: who answers asks
+// `outcome` first. The library's BufReader asks for a heap.
 #[derive(Drop)]
 pub struct Source<'a> {
-    stdin: Stdin,
+    stdin: Retrying<Stdin, HostRuntime>,
     buffer: &'a mut [u8],
     // what was read and not yet used: the bytes of the buffer from `at` up to `len`
     at: usize,
     len: usize,
-    outcome: io::Result<()>,
+    outcome: Result<(), Failed>,
 }
 
 impl<'a> Source<'a> {
     // Nothing was read yet.
-    pub fn new(stdin: Stdin, buffer: &'a mut [u8]) -> Source<'a> {
+    pub fn new(rt: HostRuntime, buffer: &'a mut [u8]) -> Source<'a> {
         Source {
-            stdin,
+            stdin: streams::stdin(rt),
             buffer,
             at: 0,
             len: 0,
@@ -32,8 +32,8 @@ impl<'a> Source<'a> {
         }
     }
 
-    // The error of the last read that failed.
-    pub fn outcome(&self) -> io::Result<()> {
+    // Whether every read so far brought bytes or the input's end.
+    pub fn outcome(&self) -> Result<(), Failed> {
         self.outcome
     }
 
@@ -46,13 +46,16 @@ impl<'a> Source<'a> {
     fn refill(&mut self) -> bool {
         self.at = 0;
         self.len = 0;
+        if self.outcome.is_err() {
+            return false;
+        }
         // No `for`: a read brings any number of bytes.
         while self.len < self.buffer.len() {
             match self.stdin.read(&mut self.buffer[self.len..]) {
                 Ok(0) => break,
                 Ok(n) => self.len += n,
-                Err(e) => {
-                    self.outcome = Err(e);
+                Err(_) => {
+                    self.outcome = Err(Failed::Input);
                     break;
                 }
             }

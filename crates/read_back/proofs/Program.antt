@@ -94,6 +94,18 @@ said_contents zero p = refl
 said_contents (suc k) [] = refl
 said_contents (suc k) (x ∷ p) = ap {B = List Content} (λ l. Some x ∷ l) (said_contents k p)
 
+-- The first n of records that say the first of an answer do so too.
+first_part : (n k : ℕ) (ws : List Record) (p : M.Prepared) → map content ws ≡ map Some (take k p) → (m : ℕ) × (map content (take n ws) ≡ map Some (take m p))
+first_part zero k ws p e = (0, refl)
+first_part (suc n) k [] p e = (0, refl)
+first_part (suc n) zero (r ∷ ws) p e = absurd (nil_cons (sym e))
+first_part (suc n) (suc k) (r ∷ ws) [] e = absurd (nil_cons (sym e))
+first_part (suc n) (suc k) (r ∷ ws) (x ∷ p) e =
+    let head : content r ≡ Some x = cc e in
+    let tail : map content ws ≡ map Some (take k p) = cc e in
+    let rest = first_part n k ws p tail in
+    (suc rest.0, λ i. head i ∷ rest.1 i)
+
 -- What observing does with them, where the answer comes of a preview.
 back : (s : RecoveredRaftStorage) (st : List ℕ) (a : Asked) (l : ArrayVec PreparedRecord) (k : ℕ) (j : Journal) (c : ObservedChunk) (st' : List ℕ)
     → sound_test s st ≡ true → Comes (recovery_of s st) a l → Written s st a l k j → Runs s st j.records j.lent c st'
@@ -118,24 +130,47 @@ back s st a l k j c st' tested m w r =
     whole true e = refl
     whole false e = absurd (true≢false (sym tested ∙ r.unsound e))
 
-    b : B.ReadsBack before (owner_of a) (batch_in a) m.preview k records
-    b =
-        read_back before (whole (sound before) refl) (owner_of a) (batch_in a) m.preview k records
+    first_k : map content records ≡ map Some (take k m.preview.records)
+    first_k =
+        contents_are j.lent j.records
+        ∙ ap (map content_of) w.first_k
+        ∙ ap (λ (x : List Body). map content_of (take k x)) m.says
+        ∙ said_contents k m.preview.records
+
+    reads : (n : ℕ) (ws : List Record) → every fits ws ≡ true → Rising before.state.last_scanned_lsn ws
+        → map content ws ≡ map Some (take n m.preview.records)
+        → B.ReadsBack before (owner_of a) (batch_in a) m.preview n ws
+    reads n ws fit rising first =
+        read_back before (whole (sound before) refl) (owner_of a) (batch_in a) m.preview n ws fit
         (record {
           accepted = m.is;
-          admitted = w.admitted;
-          first_k =
-              contents_are j.lent j.records
-              ∙ ap (map content_of) w.first_k
-              ∙ ap (λ (x : List Body). map content_of (take k x)) m.says
-              ∙ said_contents k m.preview.records;
+          admitted = record { commit = w.admitted.commit; room = w.admitted.room; counts = w.admitted.counts; rising = rising };
+          first_k = first;
         })
-
-    none : (observe_until_refused before records).ended ≡ None
-    none = none_ends before records b.accepted
 
     chunk : observe_until_refused before records ≡ chunk_of c st'
     chunk = r.means tested
+
+    observed_first : Cut before records (chunk_of c st')
+    observed_first = subst (Cut before records) chunk (cut before records)
+
+    -- Those that were observed are a machine's, so they are accepted; so they are all.
+    ended : (chunk_of c st').ended ≡ None
+    ended =
+        let part = first_part (spent (chunk_of c st')) k records m.preview.records first_k in
+        accepted_ends before records (chunk_of c st') observed_first
+        (reads part.0 (chunk_records j.records j.lent c st') (r.machine tested)
+        (rising_first before.state.last_scanned_lsn (spent (chunk_of c st')) records w.admitted.rising)
+        part.1).accepted
+
+    b : B.ReadsBack before (owner_of a) (batch_in a) m.preview k records
+    b =
+        reads k records
+        (subst (λ (ws : List Record). every fits ws ≡ true) (spent_all before records (chunk_of c st') observed_first ended) (r.machine tested))
+        w.admitted.rising first_k
+
+    none : (observe_until_refused before records).ended ≡ None
+    none = ap (λ (x : Chunk). x.ended) chunk ∙ ended
 
     left : meaning c.state st' ≡ (observed before records).state
     left = ap (λ (x : Chunk). x.left.state) (sym chunk) ∙ ap (λ (x : Recovery). x.state) (whole_left before records none)

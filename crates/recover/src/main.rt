@@ -1,10 +1,12 @@
-// Document 01's `recover`: a journal on standard input; on standard output the tables, the first refusal, or the first line that
-// cannot be read.
+// Document 01's `recover`: a journal on standard input; on standard output the tables, the first refusal, the first line that cannot be
+// read, or that reading failed.
 #![tactic(auto)]
 
 use journal::Stop;
 use journal::input::Source;
+use std::process::ExitCode;
 use storage::RecoveredRaftStorage;
+use streams::Failed;
 use tables::Output;
 use text::command::Commands;
 
@@ -26,13 +28,17 @@ fn print(answer: Result<RecoveredRaftStorage, Stop>, store: &[u8], out: &mut Out
     }
 }
 
-fn main(rt: HostRuntime) -> std::io::Result<()> {
+fn run(rt: HostRuntime) -> Result<(), Failed> {
     let mut buffer = io::large_buffer();
     let mut store = [0u8; 32768];
-    let mut source = Source::new(rt.stdin(), &mut buffer);
+    let mut source = Source::new(rt, &mut buffer);
     let answer = recovered(&mut source, &mut store);
     source.outcome()?;
     let mut out = Output::new();
     print(answer, &store, &mut out);
-    rt.write_all(out.as_slice())
+    streams::write(&mut streams::stdout(rt), out.as_slice())
+}
+
+fn main(rt: HostRuntime) -> ExitCode {
+    streams::end(rt, run(rt))
 }

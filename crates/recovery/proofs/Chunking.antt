@@ -10,6 +10,7 @@ use native.Mathlib.Omega.{arith}
 use lib.ListN.{length, get_or}
 use Rattle.definition.specs.Log as D
 use Rattle.definition.specs.Recovery.{out, observe, refusal_of}
+use Rattle.definition.specs.Two.{fits}
 use Rattle.ids.specs.declared.Refusal.{Refusal}
 use Rattle.ids.specs.Refusal.{number_of}
 use Rattle.codec.specs.declared.WalRecord.{WalRecord}
@@ -25,6 +26,7 @@ use Rattle.recovery.specs.Runs.{Runs}
 use Rattle.routing.specs.Admits.{index_in}
 use Rattle.routing.proofs.Ready.{Ready, test_ready}
 use Rattle.recovery.proofs.Running.{Running, running_start, running_takes, running_refused, running_end}
+use Rattle.recovery.proofs.Turn.{fits_record}
 use Rattle.recovery.proofs.One.{step_means, step_ready}
 
 -- i records were taken, all accepted; t and u are the state and the store then, a the last answer.
@@ -74,18 +76,21 @@ module _ (s : RecoveredRaftStorage) (st : List ℕ) (rs : List WalRecord) (lent 
     ready : Ready t' u'
     ready = step_ready t u r lent k.running.ready b' t' u' m x
 
+    machine : fits (record_of r lent) ≡ true
+    machine = fits_record r lent m
+
     pub chunk_takes : false ≡ is_err b' → Chunking s st rs lent t' u' (answer_of b') (i + 1)
     chunk_takes e =
         record {
           eight = k.eight;
           all = k.all;
           sound = k.sound;
-          running = running_takes s st rs lent t u (answer_of b) i k.running z r lt refl next x means (taken_answer b' e) ready;
+          running = running_takes s st rs lent t u (answer_of b) i k.running z r lt refl next x means machine (taken_answer b' e) ready;
           accepted = taken_answer b' e;
         }
 
     pub chunk_refused : true ≡ is_err b' → Runs s st rs lent (record { taken = i; answer = b'; state = t' }) u'
     chunk_refused e =
         let y = refused_answer b' e in
-        running_refused s st rs lent t u (answer_of b) i k.running z r lt refl next x means k.eight k.all k.sound y.0 y.1 ready
+        running_refused s st rs lent t u (answer_of b) i k.running z r lt refl next x means machine k.eight k.all k.sound y.0 y.1 ready
         (record { taken = i; answer = b'; state = t' }) u' refl

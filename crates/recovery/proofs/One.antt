@@ -42,6 +42,7 @@ module _ (s : RecoveredRaftStorage) (st : List ℕ) (r : WalRecord) (lent : List
       record {
         model = rw f (sym x);
         means = λ q. step_means s st r lent ready b s' st' m x;
+        machine = λ q. fits_record r lent m;
         stays = λ q l. ready_test s' st' (step_ready s st r lent ready b s' st' m x) l;
         refused = λ q. absurd (true≢false (sym f ∙ q));
         unsound = λ q. absurd (true≢false (sym (test_sound s st eight all f).whole ∙ q));
@@ -52,6 +53,7 @@ module _ (s : RecoveredRaftStorage) (st : List ℕ) (r : WalRecord) (lent : List
       record {
         model = rw f refl;
         means = λ q. absurd (true≢false (sym q ∙ f));
+        machine = λ q. absurd (true≢false (sym q ∙ f));
         stays = λ q l. absurd (true≢false (sym q ∙ f));
         refused = λ q. refl;
         unsound = λ q. observe_unsound (recovery_of s st) (record_of r lent) q;

@@ -1,22 +1,23 @@
 -- What the contracts promise of a run of calls is the definition's run; so the claim on two recoveries, the guarantee (document 02,
 -- Q-2) and what is said of the two commits (Q-3) speak of the program.
 -- Assumes nothing.
-use Rattle.std.specs.Prelude.{Option, None, Some, Ok}
+use Rattle.std.specs.Prelude.{Option, None, Some}
 use mathlib.Core.Path.{◌≡◌, refl, sym, ap, subst, ◌∙◌}
-use mathlib.Core.Bool.{Bool, true, cond}
+use mathlib.Core.Bool.{true}
 use mathlib.Core.List.{List, [], ◌∷◌, ◌++◌}
 use Prim.Native.Nat.{ℕ, ◌+◌, ◌<◌, ◌≤◌}
 use native.Mathlib.Omega.{arith}
-use lib.ListN.{length, take, length-append}
-use Rattle.definition.specs.Table.{first_of, u64_max}
+use lib.ListN.{length, take, length-append, length-map}
+use Rattle.definition.specs.Table.{first_of, every, u64_max}
 use Rattle.definition.specs.Records.{Identity, Record, Content, content}
 use Rattle.definition.specs.Log as D
-use Rattle.definition.specs.Recovery.{Out, out, State, Recovery, Chunk, lookup, fresh, unsound_state, unsound_store, non_increasing_wal_lsn, routed, guarded, observe_state, stored, with_store, observe, finish, answers, observed}
-use Rattle.definition.specs.Two.{Agreement, bare, replicas_left, store_left}
+use Rattle.definition.specs.Recovery.{Out, out, State, Recovery, Chunk, spent, lookup, fresh, unsound_state, unsound_store, non_increasing_wal_lsn, routed, guarded, observe_state, stored, with_store, observe, finish, answers, observed}
+use Rattle.definition.specs.Two.{fits, finish_answer, replicas_left, store_left, Outcome, outcome, Agreement}
 use Rattle.definition.specs.Healthy.{Guaranteed, EachReplica}
 use Rattle.definition.specs.Commits.{WithinView}
 use Rattle.definition.proofs.Sound.{routed_scanned}
-use Rattle.definition.proofs.Chunk.{spent, cut, answers_append, observed_append}
+use Rattle.definition.proofs.Laws.{and_i, every_append}
+use Rattle.definition.proofs.Chunk.{Cut, cut, answers_append, observed_append}
 use Rattle.definition.proofs.Final.{two_recoveries}
 use Rattle.definition.proofs.Guaranteed.{guarantee}
 use Rattle.definition.proofs.Commits.{views_is_larger}
@@ -29,9 +30,10 @@ use Rattle.storage.specs.Meaning.{meaning, recovery_of}
 use Rattle.soundness.specs.Sound.{sound_test}
 use Rattle.soundness.proofs.Fresh.{fresh_recovery, fresh_test}
 use Rattle.finishing.specs.declared.Finished.{Finished}
-use Rattle.finishing.specs.Finishes.{finished_done, unsound_done}
+use Rattle.finishing.specs.Finishes.{finished_of}
 use Rattle.routing.specs.Observe.{journal_of}
-use Rattle.recovery.specs.Program.{Call, one, chunk, Kept, chunk_records, records_of, answers_of, state_after_calls, store_after_calls, Recovers, ProgramAgrees, EachOfRun, ProgramGuarantees, ProgramViewsIsLarger}
+use Rattle.recovery.specs.Runs.{chunk_of, chunk_records}
+use Rattle.recovery.specs.Program.{Call, one, chunk, Kept, records_of, answers_of, state_after_calls, store_after_calls, Recovers, outcome_of, ProgramAgrees, ChunkTells, EachOfRun, ProgramGuarantees, ProgramViewsIsLarger}
 
 -- A record is counted once at most.
 abbrev scanned : Recovery → ℕ
@@ -63,6 +65,7 @@ pub record Left (s : RecoveredRaftStorage) (st : List ℕ) (cs : List Call) : Ty
   pub answered : answers_of s st cs ≡ answers (recovery_of s st) (records_of cs)
   pub left : recovery_of (state_after_calls s cs) (store_after_calls st cs) ≡ observed (recovery_of s st) (records_of cs)
   pub sound : sound_test (state_after_calls s cs) (store_after_calls st cs) ≡ true
+  pub machine : every fits (records_of cs) ≡ true
 
 abbrev counted : RecoveredRaftStorage → ℕ
 counted s = s.scan.scanned_records
@@ -77,7 +80,7 @@ count_of s st = refl
 
 pub calls_are : (s : RecoveredRaftStorage) (st : List ℕ) (cs : List Call) → Kept s st cs → sound_test s st ≡ true → counted s + length (records_of cs) < u64_max → Left s st cs
 unfolding answers observed
-calls_are s st [] k f n = record { answered = refl; left = refl; sound = f }
+calls_are s st [] k f n = record { answered = refl; left = refl; sound = f; machine = refl }
 calls_are s st (one r lent d st₁ ∷ cs) (o, k) f n =
     let x : Record = record_of r lent in
     let m : observe (recovery_of s st) x ≡ out (answer_of d.answer) (recovery_of d.state st₁) = o.means f in
@@ -89,6 +92,7 @@ calls_are s st (one r lent d st₁ ∷ cs) (o, k) f n =
           (λ j. sym (ap (λ (y : Out Recovery). y.answer) m) j ∷ rest.answered j) ∙ ap (λ (w : Recovery). (observe (recovery_of s st) x).answer ∷ answers w (records_of cs)) (sym next);
       left = rest.left ∙ ap (λ (w : Recovery). observed w (records_of cs)) (sym next);
       sound = rest.sound;
+      machine = and_i (fits x) (every fits (records_of cs)) (o.machine f) rest.machine;
     }
 calls_are s st (chunk ws lent d st₁ ∷ cs) (o, k) f n =
     let w : Recovery = recovery_of s st in
@@ -104,6 +108,7 @@ calls_are s st (chunk ws lent d st₁ ∷ cs) (o, k) f n =
           ∙ sym (answers_append w xs (records_of cs));
       left = rest.left ∙ ap (λ (v : Recovery). observed v (records_of cs)) next ∙ sym (observed_append w xs (records_of cs));
       sound = rest.sound;
+      machine = every_append fits xs (records_of cs) ∙ and_i (every fits xs) (every fits (records_of cs)) (o.machine f) rest.machine;
     }
 
 -- A whole recovery.
@@ -123,12 +128,12 @@ module _ (cs : List Call) (d : Finished) (k : Recovers cs d) (few : length (reco
   observed_is : observed fresh (records_of cs) ≡ recovery_of s st
   observed_is = ap (λ (w : Recovery). observed w (records_of cs)) (sym fresh_recovery) ∙ sym run.left
 
-  done : finish (observed fresh (records_of cs)) ≡ out D.finished (recovery_of d.state st)
+  done : finish (observed fresh (records_of cs)) ≡ out (finished_of d.answer) (recovery_of d.state st)
   done = ap finish observed_is ∙ k.finishes.means run.sound
 
-  finished_is : d.answer ≡ (Ok tt)
-  finished_is =
-      ap (λ (x : Finished). x.answer) k.finishes.model ∙ ap (λ (b : Bool). (cond b (finished_done s) (unsound_done s)).answer) run.sound
+  finishing_is : finish_answer (records_of cs) ≡ finished_of d.answer
+  unfolding finish_answer
+  finishing_is = ap (λ (o : Out Recovery). o.answer) done
 
   replicas_are : replicas_left (records_of cs) ≡ (meaning d.state st).replicas
   unfolding replicas_left
@@ -146,19 +151,31 @@ module _ (cs : List Call) (d : Finished) (k : Recovers cs d) (few : length (reco
   unfolding store_left
   store_is = ap (λ (o : Out Recovery). o.next.store) done
 
+  outcome_is : outcome (records_of cs) ≡ outcome_of cs d
+  outcome_is i =
+      record { records = records_of cs; answered = sym told i; finishing = finishing_is i; replicas = replicas_are i; store = store_is i }
+
 pub program_agrees : ProgramAgrees
 program_agrees A B d e r a b =
-    let t : Agreement (records_of A) (records_of B) = two_recoveries (records_of A) (records_of B) r in
+    let few_A : length (records_of A) < u64_max = r.few_A in
+    let few_B : length (records_of B) < u64_max = r.few_B in
+    subst (λ (x : Outcome). Agreement x (outcome_of B e)) (outcome_is A d a few_A)
+    (subst (λ (y : Outcome). Agreement (outcome (records_of A)) y) (outcome_is B e b few_B)
+    (two_recoveries (records_of A) (records_of B) (run A d a few_A).machine (run B e b few_B).machine r))
+
+pub chunk_tells : ChunkTells
+chunk_tells s st ws lent d st' f r =
+    let w : Recovery = recovery_of s st in
+    let k : Cut w (journal_of ws lent) (chunk_of d st') = subst (Cut w (journal_of ws lent)) (r.means f) (cut w (journal_of ws lent)) in
     record {
-      finished_A = finished_is A d a r.few_A;
-      finished_B = finished_is B e b r.few_B;
-      same_answers = λ i. rw (told A d a r.few_A, told B e b r.few_B) (t.same_answers i);
-      same_replicas = sym (ap bare (replicas_are A d a r.few_A)) ∙ t.same_replicas ∙ ap bare (replicas_are B e b r.few_B);
-      same_store = sym (store_is A d a r.few_A) ∙ t.same_store ∙ store_is B e b r.few_B;
+      accepted = k.accepted;
+      ended = k.said;
+      whole = λ e. k.all e ∙ length-map ws (λ x. record_of x lent);
+      last = r.last f;
     }
 
 pub program_guarantees : ProgramGuarantees
-program_guarantees cs d few m l k = each_of_run cs d k few (Guaranteed (records_of cs)) (guarantee (records_of cs) m l)
+program_guarantees cs d few l k = each_of_run cs d k few (Guaranteed (records_of cs)) (guarantee (records_of cs) (run cs d k few).machine l)
 
 pub program_views_is_larger : ProgramViewsIsLarger
 program_views_is_larger cs d few k = each_of_run cs d k few (λ i log. WithinView log) (views_is_larger (records_of cs))

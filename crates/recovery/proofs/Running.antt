@@ -8,11 +8,14 @@ use Prim.Native.Nat.{ℕ, suc, ◌+◌, ◌<◌, ◌≤◌}
 use native.Mathlib.Omega.{arith}
 use native.Mathlib.Numerals.{add-one}
 use native.Mathlib.Nat.{add-zero, zero-add}
-use lib.ListN.{length, get_or, drop}
+use lib.ListN.{length, get_or, take, drop}
 use lib.Seq.{drop-cons, drop-length}
+use Rattle.definition.specs.Table.{present, every}
 use Rattle.definition.specs.Records.{Record}
 use Rattle.definition.specs.Log as D
-use Rattle.definition.specs.Recovery.{Out, out, Recovery, observe, refusal_of, Chunk, one_more, observe_until_refused}
+use Rattle.definition.specs.Recovery.{Out, out, Recovery, observe, refusal_of, Chunk, spent, one_more, observe_until_refused}
+use Rattle.definition.specs.Two.{fits}
+use Rattle.definition.proofs.Laws.{and_i}
 use Rattle.codec.specs.declared.WalRecord.{WalRecord}
 use Rattle.codec.specs.Records.{record_of}
 use Rattle.storage.specs.declared.RecoveredRaftStorage.{RecoveredRaftStorage}
@@ -62,6 +65,7 @@ module _ (s : RecoveredRaftStorage) (st : List ℕ) (rs : List WalRecord) (lent 
     pub model : ran_from D.counted s st rs lent ≡ later i (ran_from a t u (drop i rs) lent)
     pub chunk : observe_until_refused (recovery_of s st) (journal_of rs lent) ≡ later_chunk i (observe_until_refused (recovery_of t u) (journal_of (drop i rs) lent))
     pub last : last_answer D.counted (recovery_of s st) (journal_of rs lent) ≡ last_answer a (recovery_of t u) (journal_of (drop i rs) lent)
+    pub machine : (n : ℕ) → every fits (take n (journal_of (drop i rs) lent)) ≡ true → every fits (take (i + n) (journal_of rs lent)) ≡ true
 
   -- What is left at the end, of a sound state.
   module _ (eight : length s.heads ≡ 8) (all : length s.entries ≡ 512) (f : sound_test s st ≡ true) where
@@ -69,12 +73,14 @@ module _ (s : RecoveredRaftStorage) (st : List ℕ) (rs : List WalRecord) (lent 
     leaves x = record { taken = x.taken; ended = refusal_of x.answer; left = recovery_of x.state x.store }
 
     ends : (x : Ran) (d : ObservedChunk) (st' : List ℕ) → ran_from D.counted s st rs lent ≡ x → observe_until_refused (recovery_of s st) (journal_of rs lent) ≡ leaves x
-        → last_answer D.counted (recovery_of s st) (journal_of rs lent) ≡ x.answer → Ready x.state x.store → ran_of d st' ≡ x → Runs s st rs lent d st'
-    ends x d st' em ec el ready ed =
+        → last_answer D.counted (recovery_of s st) (journal_of rs lent) ≡ x.answer → every fits (take (spent (leaves x)) (journal_of rs lent)) ≡ true
+        → Ready x.state x.store → ran_of d st' ≡ x → Runs s st rs lent d st'
+    ends x d st' em ec el ef ready ed =
         record {
           model = ed ∙ sym (rw f em);
           means = λ q. ec ∙ ap leaves (sym ed);
           last = λ q. el ∙ ap (λ (y : Ran). y.answer) (sym ed);
+          machine = λ q. ap (λ (y : Ran). every fits (take (spent (leaves y)) (journal_of rs lent))) ed ∙ ef;
           stays = λ q l. ready_test d.state st' (rw (← ed) at ready) l;
           refused = λ q. absurd (true≢false (sym f ∙ q));
           unsound = λ q. absurd (true≢false (sym (test_sound s st eight all f).whole ∙ q));
@@ -88,6 +94,7 @@ module _ (s : RecoveredRaftStorage) (st : List ℕ) (rs : List WalRecord) (lent 
         model = ap (λ (n : ℕ). record { taken = n; answer = (ran_from D.counted s st rs lent).answer; state = (ran_from D.counted s st rs lent).state; store = (ran_from D.counted s st rs lent).store }) (sym (zero-add (ran_from D.counted s st rs lent).taken));
         chunk = ap (λ (n : ℕ). record { taken = n; ended = (observe_until_refused (recovery_of s st) (journal_of rs lent)).ended; left = (observe_until_refused (recovery_of s st) (journal_of rs lent)).left }) (sym (zero-add (observe_until_refused (recovery_of s st) (journal_of rs lent)).taken));
         last = refl;
+        machine = λ n e. ap (λ (j : ℕ). every fits (take j (journal_of rs lent))) (zero-add n) ∙ e;
       }
 
   -- The next record, and what its step leaves.
@@ -110,7 +117,9 @@ module _ (s : RecoveredRaftStorage) (st : List ℕ) (rs : List WalRecord) (lent 
     abbrev more : List Record
     more = journal_of rest lent
 
-    module _ (x : Stepped) (ex : stepped t u r lent ≡ x) (eo : observe w (record_of r lent) ≡ out x.answer (recovery_of x.state x.store)) where
+    module _ (x : Stepped) (ex : stepped t u r lent ≡ x) (eo : observe w (record_of r lent) ≡ out x.answer (recovery_of x.state x.store))
+        (m : fits (record_of r lent) ≡ true)
+      where
       ran_is : ran_from a t u (drop i rs) lent ≡ ran_by (refusal_of x.answer) x (ran_from x.answer x.state x.store rest lent)
       ran_is =
           ap (λ (l : List WalRecord). ran_from a t u l lent) next_is ∙ ran_step a t u r rest lent
@@ -130,6 +139,11 @@ module _ (s : RecoveredRaftStorage) (st : List ℕ) (rs : List WalRecord) (lent 
           ap (λ (l : List WalRecord). last_answer a w (journal_of l lent)) next_is ∙ last_step a w (record_of r lent) more
           ∙ ap (λ (y : Out Recovery). last_by (refusal_of y.answer) y.answer (last_answer y.answer y.next more)) eo
 
+      machine_is : (n : ℕ) → every fits (take n more) ≡ true → every fits (take (i + suc n) (journal_of rs lent)) ≡ true
+      machine_is n h =
+          k.machine (suc n)
+          (ap (λ (l : List WalRecord). every fits (take (suc n) (journal_of l lent))) next_is ∙ and_i (fits (record_of r lent)) (every fits (take n more)) m h)
+
       -- It is taken.
       pub running_takes : refusal_of x.answer ≡ None → Ready x.state x.store → Running x.state x.store x.answer (i + 1)
       running_takes e ready =
@@ -141,6 +155,7 @@ module _ (s : RecoveredRaftStorage) (st : List ℕ) (rs : List WalRecord) (lent 
             chunk = k.chunk ∙ ap (later_chunk i) (chunk_is None e)
                 ∙ ap (λ (n : ℕ). record { taken = n; ended = (observe_until_refused (recovery_of x.state x.store) more).ended; left = (observe_until_refused (recovery_of x.state x.store) more).left }) (one_past (observe_until_refused (recovery_of x.state x.store) more).taken);
             last = k.last ∙ last_is ∙ ap (λ (o : Option ℕ). last_by o x.answer (last_answer x.answer (recovery_of x.state x.store) more)) e;
+            machine = λ n h. ap (λ (j : ℕ). every fits (take j (journal_of rs lent))) (sym (one_past n)) ∙ machine_is n h;
           }
         where
           one_past : (n : ℕ) → i + suc n ≡ i + 1 + n
@@ -157,6 +172,7 @@ module _ (s : RecoveredRaftStorage) (st : List ℕ) (rs : List WalRecord) (lent 
           (k.chunk ∙ ap (later_chunk i) (chunk_is (Some n) q)
           ∙ λ j. record { taken = add-zero i j; ended = sym q j; left = recovery_of x.state x.store })
           (k.last ∙ last_is ∙ ap (λ (o : Option ℕ). last_by o x.answer (last_answer x.answer (recovery_of x.state x.store) more)) q)
+          (ap (λ (o : Option ℕ). every fits (take (i + length (present o)) (journal_of rs lent))) q ∙ machine_is 0 refl)
           ready ed
 
   -- All were taken.
@@ -171,4 +187,5 @@ module _ (s : RecoveredRaftStorage) (st : List ℕ) (rs : List WalRecord) (lent 
       (k.chunk ∙ ap (λ (l : List WalRecord). later_chunk i (observe_until_refused (recovery_of t u) (journal_of l lent))) none_left
       ∙ λ j. record { taken = add-zero i j; ended = sym e j; left = recovery_of t u })
       (k.last ∙ ap (λ (l : List WalRecord). last_answer a (recovery_of t u) (journal_of l lent)) none_left)
+      (ap (λ (o : Option ℕ). every fits (take (i + length (present o)) (journal_of rs lent))) e ∙ k.machine 0 refl)
       k.ready ed

@@ -107,7 +107,8 @@ pub fn previewed_at(
     previewed_sound(&sound, identity, batch, lent, index)
 }
 
-// The command of a previewed index: a part of the store or of the lent bytes, an empty part of the store where there is none.
+// The command of a previewed index: a part of the store or of the lent bytes, an empty part of the store where there is none. The contract
+// says which bytes; of which of the two slices they are (`previewed_at` says it) it leaves free.
 pub fn previewed_command<'a>(
     state: RecoveredRaftStorage,
     store: &'a [u8],

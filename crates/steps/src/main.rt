@@ -6,7 +6,10 @@ use codec::WalRecord;
 use journal::Recovered;
 use journal::input::Source;
 use recovery::observing;
+use std::io::Write;
+use std::process::ExitCode;
 use storage::RecoveredRaftStorage;
+use streams::Failed;
 use tables::Output;
 use text::command::Commands;
 
@@ -65,37 +68,50 @@ fn observe(
     Ok(observed.state)
 }
 
-fn print_state(rt: &impl Print, state: &RecoveredRaftStorage, store: &[u8]) -> std::io::Result<()> {
+fn print_state(
+    to: &mut impl Write,
+    state: &RecoveredRaftStorage,
+    store: &[u8],
+) -> Result<(), Failed> {
     let mut out = Output::new();
     state_tables::write_state(state, store, &mut out);
-    rt.write_all(out.as_slice())
+    streams::write(to, out.as_slice())
 }
 
 // The state, and the same when it is finished.
-fn print_states(rt: &impl Print, state: RecoveredRaftStorage, store: &[u8]) -> std::io::Result<()> {
-    print_state(rt, &state, store)?;
-    rt.write_all(b"finished\n")?;
-    print_state(rt, &finishing::finish(state, store).state, store)
+fn print_states(
+    to: &mut impl Write,
+    state: RecoveredRaftStorage,
+    store: &[u8],
+) -> Result<(), Failed> {
+    print_state(to, &state, store)?;
+    streams::write(to, b"finished\n")?;
+    print_state(to, &finishing::finish(state, store).state, store)
 }
 
 // A record's line has at most 53 bytes, and a journal at most 4,096 records.
-fn main(rt: HostRuntime) -> std::io::Result<()> {
+fn run(rt: HostRuntime) -> Result<(), Failed> {
     let mut buffer = io::large_buffer();
     let mut commands = Commands::none();
     let mut store = [0u8; 32768];
     let mut out = Output::new();
-    let mut source = Source::new(rt.stdin(), &mut buffer);
+    let mut source = Source::new(rt, &mut buffer);
     let observed = observe(&mut source, &mut commands, &mut store, &mut out);
     source.outcome()?;
+    let mut to = streams::stdout(rt);
     match observed {
         Err(line) => {
             let mut out = Output::new();
             tables::write_malformed(line, &mut out);
-            rt.write_all(out.as_slice())
+            streams::write(&mut to, out.as_slice())
         }
         Ok(state) => {
-            rt.write_all(out.as_slice())?;
-            print_states(&rt, state, &store)
+            streams::write(&mut to, out.as_slice())?;
+            print_states(&mut to, state, &store)
         }
     }
+}
+
+fn main(rt: HostRuntime) -> ExitCode {
+    streams::end(rt, run(rt))
 }
