@@ -120,60 +120,60 @@ module _ (s : RecoveredRaftStorage) (st : List ℕ) (rs : List WalRecord) (lent 
     module _ (x : Stepped) (ex : stepped t u r lent ≡ x) (eo : observe w (record_of r lent) ≡ out x.answer (recovery_of x.state x.store))
         (m : fits (record_of r lent) ≡ true)
       where
-      ran_is : ran_from a t u (drop i rs) lent ≡ ran_by (refusal_of x.answer) x (ran_from x.answer x.state x.store rest lent)
-      ran_is =
-          ap (λ (l : List WalRecord). ran_from a t u l lent) next_is ∙ ran_step a t u r rest lent
-          ∙ ap (λ (y : Stepped). ran_by (refusal_of y.answer) y (ran_from y.answer y.state y.store rest lent)) ex
+        ran_is : ran_from a t u (drop i rs) lent ≡ ran_by (refusal_of x.answer) x (ran_from x.answer x.state x.store rest lent)
+        ran_is =
+            ap (λ (l : List WalRecord). ran_from a t u l lent) next_is ∙ ran_step a t u r rest lent
+            ∙ ap (λ (y : Stepped). ran_by (refusal_of y.answer) y (ran_from y.answer y.state y.store rest lent)) ex
 
-      chunk_is : (o : Option ℕ) → refusal_of x.answer ≡ o
-          → observe_until_refused w (journal_of (drop i rs) lent)
-          ≡ chunk_by o (recovery_of x.state x.store) (observe_until_refused (recovery_of x.state x.store) more)
-      chunk_is o e =
-          ap (λ (l : List WalRecord). observe_until_refused w (journal_of l lent)) next_is
-          ∙ chunk_step w (record_of r lent) more o (ap (λ (y : Out Recovery). refusal_of y.answer) eo ∙ e)
-          ∙ ap (λ (y : Out Recovery). chunk_by o y.next (observe_until_refused y.next more)) eo
+        chunk_is : (o : Option ℕ) → refusal_of x.answer ≡ o
+            → observe_until_refused w (journal_of (drop i rs) lent)
+            ≡ chunk_by o (recovery_of x.state x.store) (observe_until_refused (recovery_of x.state x.store) more)
+        chunk_is o e =
+            ap (λ (l : List WalRecord). observe_until_refused w (journal_of l lent)) next_is
+            ∙ chunk_step w (record_of r lent) more o (ap (λ (y : Out Recovery). refusal_of y.answer) eo ∙ e)
+            ∙ ap (λ (y : Out Recovery). chunk_by o y.next (observe_until_refused y.next more)) eo
 
-      last_is : last_answer a w (journal_of (drop i rs) lent)
-          ≡ last_by (refusal_of x.answer) x.answer (last_answer x.answer (recovery_of x.state x.store) more)
-      last_is =
-          ap (λ (l : List WalRecord). last_answer a w (journal_of l lent)) next_is ∙ last_step a w (record_of r lent) more
-          ∙ ap (λ (y : Out Recovery). last_by (refusal_of y.answer) y.answer (last_answer y.answer y.next more)) eo
+        last_is : last_answer a w (journal_of (drop i rs) lent)
+            ≡ last_by (refusal_of x.answer) x.answer (last_answer x.answer (recovery_of x.state x.store) more)
+        last_is =
+            ap (λ (l : List WalRecord). last_answer a w (journal_of l lent)) next_is ∙ last_step a w (record_of r lent) more
+            ∙ ap (λ (y : Out Recovery). last_by (refusal_of y.answer) y.answer (last_answer y.answer y.next more)) eo
 
-      machine_is : (n : ℕ) → every fits (take n more) ≡ true → every fits (take (i + suc n) (journal_of rs lent)) ≡ true
-      machine_is n h =
-          k.machine (suc n)
-          (ap (λ (l : List WalRecord). every fits (take (suc n) (journal_of l lent))) next_is ∙ and_i (fits (record_of r lent)) (every fits (take n more)) m h)
+        machine_is : (n : ℕ) → every fits (take n more) ≡ true → every fits (take (i + suc n) (journal_of rs lent)) ≡ true
+        machine_is n h =
+            k.machine (suc n)
+            (ap (λ (l : List WalRecord). every fits (take (suc n) (journal_of l lent))) next_is ∙ and_i (fits (record_of r lent)) (every fits (take n more)) m h)
 
-      -- It is taken.
-      pub running_takes : refusal_of x.answer ≡ None → Ready x.state x.store → Running x.state x.store x.answer (i + 1)
-      running_takes e ready =
-          record {
-            within = omega arith;
-            ready = ready;
-            model = k.model ∙ ap (later i) (ran_is ∙ ap (λ (o : Option ℕ). ran_by o x (ran_from x.answer x.state x.store rest lent)) e)
-                ∙ ap (λ (n : ℕ). record { taken = n; answer = (ran_from x.answer x.state x.store rest lent).answer; state = (ran_from x.answer x.state x.store rest lent).state; store = (ran_from x.answer x.state x.store rest lent).store }) (one_past (ran_from x.answer x.state x.store rest lent).taken);
-            chunk = k.chunk ∙ ap (later_chunk i) (chunk_is None e)
-                ∙ ap (λ (n : ℕ). record { taken = n; ended = (observe_until_refused (recovery_of x.state x.store) more).ended; left = (observe_until_refused (recovery_of x.state x.store) more).left }) (one_past (observe_until_refused (recovery_of x.state x.store) more).taken);
-            last = k.last ∙ last_is ∙ ap (λ (o : Option ℕ). last_by o x.answer (last_answer x.answer (recovery_of x.state x.store) more)) e;
-            machine = λ n h. ap (λ (j : ℕ). every fits (take j (journal_of rs lent))) (sym (one_past n)) ∙ machine_is n h;
-          }
-        where
-          one_past : (n : ℕ) → i + suc n ≡ i + 1 + n
-          one_past n = omega arith
+        -- It is taken.
+        pub running_takes : refusal_of x.answer ≡ None → Ready x.state x.store → Running x.state x.store x.answer (i + 1)
+        running_takes e ready =
+            record {
+              within = omega arith;
+              ready = ready;
+              model = k.model ∙ ap (later i) (ran_is ∙ ap (λ (o : Option ℕ). ran_by o x (ran_from x.answer x.state x.store rest lent)) e)
+                  ∙ ap (λ (n : ℕ). record { taken = n; answer = (ran_from x.answer x.state x.store rest lent).answer; state = (ran_from x.answer x.state x.store rest lent).state; store = (ran_from x.answer x.state x.store rest lent).store }) (one_past (ran_from x.answer x.state x.store rest lent).taken);
+              chunk = k.chunk ∙ ap (later_chunk i) (chunk_is None e)
+                  ∙ ap (λ (n : ℕ). record { taken = n; ended = (observe_until_refused (recovery_of x.state x.store) more).ended; left = (observe_until_refused (recovery_of x.state x.store) more).left }) (one_past (observe_until_refused (recovery_of x.state x.store) more).taken);
+              last = k.last ∙ last_is ∙ ap (λ (o : Option ℕ). last_by o x.answer (last_answer x.answer (recovery_of x.state x.store) more)) e;
+              machine = λ n h. ap (λ (j : ℕ). every fits (take j (journal_of rs lent))) (sym (one_past n)) ∙ machine_is n h;
+            }
+          where
+            one_past : (n : ℕ) → i + suc n ≡ i + 1 + n
+            one_past n = omega arith
 
-      -- It is refused, and the chunk ends.
-      pub running_refused : length s.heads ≡ 8 → length s.entries ≡ 512 → sound_test s st ≡ true → (n : ℕ) → x.answer ≡ D.refused n → Ready x.state x.store
-          → (d : ObservedChunk) (st' : List ℕ) → ran_of d st' ≡ record { taken = i; answer = x.answer; state = x.state; store = x.store } → Runs s st rs lent d st'
-      running_refused eight all f n e ready d st' ed =
-          let q : refusal_of x.answer ≡ Some n = ap refusal_of e in
-          ends eight all f (record { taken = i; answer = x.answer; state = x.state; store = x.store }) d st'
-          (k.model ∙ ap (later i) (ran_is ∙ ap (λ (o : Option ℕ). ran_by o x (ran_from x.answer x.state x.store rest lent)) q)
-          ∙ ap (λ (m : ℕ). record { taken = m; answer = x.answer; state = x.state; store = x.store }) (add-zero i))
-          (k.chunk ∙ ap (later_chunk i) (chunk_is (Some n) q)
-          ∙ λ j. record { taken = add-zero i j; ended = sym q j; left = recovery_of x.state x.store })
-          (k.last ∙ last_is ∙ ap (λ (o : Option ℕ). last_by o x.answer (last_answer x.answer (recovery_of x.state x.store) more)) q)
-          (ap (λ (o : Option ℕ). every fits (take (i + length (present o)) (journal_of rs lent))) q ∙ machine_is 0 refl)
-          ready ed
+        -- It is refused, and the chunk ends.
+        pub running_refused : length s.heads ≡ 8 → length s.entries ≡ 512 → sound_test s st ≡ true → (n : ℕ) → x.answer ≡ D.refused n → Ready x.state x.store
+            → (d : ObservedChunk) (st' : List ℕ) → ran_of d st' ≡ record { taken = i; answer = x.answer; state = x.state; store = x.store } → Runs s st rs lent d st'
+        running_refused eight all f n e ready d st' ed =
+            let q : refusal_of x.answer ≡ Some n = ap refusal_of e in
+            ends eight all f (record { taken = i; answer = x.answer; state = x.state; store = x.store }) d st'
+            (k.model ∙ ap (later i) (ran_is ∙ ap (λ (o : Option ℕ). ran_by o x (ran_from x.answer x.state x.store rest lent)) q)
+            ∙ ap (λ (m : ℕ). record { taken = m; answer = x.answer; state = x.state; store = x.store }) (add-zero i))
+            (k.chunk ∙ ap (later_chunk i) (chunk_is (Some n) q)
+            ∙ λ j. record { taken = add-zero i j; ended = sym q j; left = recovery_of x.state x.store })
+            (k.last ∙ last_is ∙ ap (λ (o : Option ℕ). last_by o x.answer (last_answer x.answer (recovery_of x.state x.store) more)) q)
+            (ap (λ (o : Option ℕ). every fits (take (i + length (present o)) (journal_of rs lent))) q ∙ machine_is 0 refl)
+            ready ed
 
   -- All were taken.
   pub running_end : length s.heads ≡ 8 → length s.entries ≡ 512 → sound_test s st ≡ true → (t : RecoveredRaftStorage) (u : List ℕ) (a : D.Answer) (i : ℕ) → Running t u a i → length rs ≤ i

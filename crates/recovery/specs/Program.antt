@@ -15,6 +15,7 @@ use Rattle.replay.specs.Plan.{answer_of}
 use Rattle.storage.specs.declared.RecoveredRaftStorage.{RecoveredRaftStorage}
 use Rattle.storage.specs.Model.{fresh_storage}
 use Rattle.storage.specs.Meaning.{meaning, recovery_of}
+use Rattle.soundness.specs.Sound.{sound_test}
 use Rattle.finishing.specs.declared.Finished.{Finished}
 use Rattle.recovery.specs.declared.observing.ObservedChunk.{ObservedChunk}
 use Rattle.recovery.specs.declared.observing.Observed.{Observed}

@@ -9,12 +9,11 @@ ghost use Rattle.std.specs.Process.{exit_status};
 ghost use Rattle.streams.specs.declared.Failed.TheVariants.{Output};
 ghost use Rattle.streams.specs.Streams.{status_of, Passes};
 
-use std::io;
 use std::io::{ErrorKind, Read, Write};
 use std::process::ExitCode;
 use std::rt::{Stdin, Stdout};
-use std::thread;
 use std::time::{Clock, Duration};
+use std::{io, thread};
 
 // A stream whose calls are made again where they were interrupted and, after a pause, where the stream does not block and is not ready.
 #[derive(Drop)]
