@@ -2,12 +2,13 @@
 // of the input is told apart from a read that failed.
 #![tactic(auto)]
 
-ghost use Rattle.std.specs.Prelude.{◌≡◌, IsTrue, ◌↔◌, OnOk, IfErr};
+ghost use Rattle.std.specs.Prelude.{◌≡◌, ◌≢◌, IsTrue, ◌↔◌, ◌⊎◌, OnOk, IfErr};
 ghost use Rattle.std.specs.IoError.{error_kind};
-ghost use Rattle.std.specs.Io.KnownBytes.{Appends};
+ghost use Rattle.std.specs.Io.{ReadsAtMost, WritesAtMost};
+ghost use Rattle.std.specs.Io.KnownBytes.{ReadConsumes, WriteAppends, Appends};
 ghost use Rattle.std.specs.Process.{exit_status};
 ghost use Rattle.streams.specs.declared.Failed.TheVariants.{Output};
-ghost use Rattle.streams.specs.Streams.{status_of, Passes};
+ghost use Rattle.streams.specs.Streams.{status_of};
 
 use std::io::{ErrorKind, Read, Write};
 use std::process::ExitCode;
@@ -38,7 +39,7 @@ impl<S, C: Clock> Retrying<S, C> {
 
     // Whether a call that failed so is made again.
     fn again(&self, why: io::Error) -> bool
-        ensures { IsTrue result ↔ Passes (error_kind why) }
+        ensures { IsTrue result ↔ ((error_kind why ≡ ErrorKind.Interrupted) ⊎ (error_kind why ≡ ErrorKind.WouldBlock)) }
     {
         match why.kind() {
             ErrorKind::Interrupted => true,
@@ -55,7 +56,11 @@ impl<S, C: Clock> Retrying<S, C> {
 impl<R: Read, C: Clock> Read for Retrying<R, C> {
     ghost remaining = { λ s. R.remaining s.stream };
 
-    fn read(&mut self, buf: &mut [u8]) -> io::Result<usize> {
+    fn read(&mut self, buf: &mut [u8]) -> io::Result<usize>
+        ensures bound { ReadsAtMost result buf.new }
+        ensures bytes { ReadConsumes (R.remaining self.old.stream) (R.remaining self.new.stream) result buf.new }
+        ensures lasting { IfErr result (λ e. (error_kind e ≢ ErrorKind.Interrupted) × (error_kind e ≢ ErrorKind.WouldBlock)) }
+    {
         for _ in 0..u64::MAX {
             match self.stream.read(buf) {
                 Ok(n) => return Ok(n),
@@ -73,7 +78,11 @@ impl<R: Read, C: Clock> Read for Retrying<R, C> {
 impl<W: Write, C: Clock> Write for Retrying<W, C> {
     ghost contents = { λ s. W.contents s.stream };
 
-    fn write(&mut self, buf: &[u8]) -> io::Result<usize> {
+    fn write(&mut self, buf: &[u8]) -> io::Result<usize>
+        ensures bound { WritesAtMost result buf.now }
+        ensures bytes { WriteAppends (W.contents self.old.stream) (W.contents self.new.stream) result buf.now }
+        ensures lasting { IfErr result (λ e. (error_kind e ≢ ErrorKind.Interrupted) × (error_kind e ≢ ErrorKind.WouldBlock)) }
+    {
         for _ in 0..u64::MAX {
             match self.stream.write(buf) {
                 Ok(n) => return Ok(n),
