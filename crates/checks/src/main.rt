@@ -212,11 +212,7 @@ fn read_bytes(to: &mut impl Write, line: &mut Line, bytes: &[u8]) -> Result<(), 
 }
 
 // One read of standard input: how many bytes it gave.
-fn read_some(
-    to: &mut impl Write,
-    stdin: &mut impl Read,
-    line: &mut Line,
-) -> Result<usize, Failed> {
+fn read_some(to: &mut impl Write, stdin: &mut impl Read, line: &mut Line) -> Result<usize, Failed> {
     let mut buf = [0u8; 4096];
     let n = stdin.read(&mut buf).or(Err(Failed::Input))?;
     read_bytes(to, line, &buf[..n])?;

@@ -4,15 +4,18 @@ use Rattle.std.specs.Prelude.{None, Some, Result, Ok, Err}
 use mathlib.Core.Path.{◌≡◌, refl, sym, ap, subst, ◌∙◌}
 use mathlib.Core.Logic.{◌⊎◌, inl, inr}
 use mathlib.Core.Bool.{Bool, true, false, true≢false}
-use mathlib.Core.List.{List, [], ◌∷◌, map}
+use mathlib.Core.List.{List, [], ◌∷◌, map, nil≢cons}
 use Prim.Native.Nat.{ℕ, zero, suc}
 use native.Mathlib.Omega.{arith}
 use lib.ListN.{length, take, length-map}
+use Rattle.definition.specs.Table.{every}
 use Rattle.definition.specs.Records.{Record, Content, content_of, content, Body, raft}
-use Rattle.definition.specs.Recovery.{Out, State, Recovery, Chunk, sound, finish, observed, observe_until_refused}
+use Rattle.definition.specs.Recovery.{Out, State, Recovery, Chunk, spent, sound, finish, observed, observe_until_refused}
+use Rattle.definition.specs.Two.{Rising, fits}
 use Rattle.definition.specs.Batch as M
 use Rattle.definition.specs.ReadBack as B
-use Rattle.definition.proofs.Chunk.{whole_taken, whole_left, none_ends}
+use Rattle.definition.proofs.Chunk.{Cut, cut, accepted_ends, spent_all, whole_taken, whole_left}
+use Rattle.definition.proofs.Rising.{rising_first}
 use Rattle.definition.proofs.ReadBack.{read_back}
 use Rattle.store.specs.Zeros.{zeros}
 use Rattle.codec.specs.declared.WalRecord.{WalRecord}
@@ -26,7 +29,7 @@ use Rattle.finishing.specs.declared.Finished.{Finished}
 use Rattle.finishing.specs.Finishes.{Finishes}
 use Rattle.routing.specs.Observe.{journal_of}
 use Rattle.recovery.specs.declared.observing.ObservedChunk.{ObservedChunk}
-use Rattle.recovery.specs.Runs.{chunk_of, Runs}
+use Rattle.recovery.specs.Runs.{chunk_of, chunk_records, Runs}
 use Rattle.recovery.specs.Program.{state_after_calls, store_after_calls}
 use Rattle.recovery.proofs.Program.{Left, calls_are}
 use Rattle.arrayvec.specs.ArrayVec.{ArrayVec}
@@ -98,8 +101,8 @@ said_contents (suc k) (x ∷ p) = ap {B = List Content} (λ l. Some x ∷ l) (sa
 first_part : (n k : ℕ) (ws : List Record) (p : M.Prepared) → map content ws ≡ map Some (take k p) → (m : ℕ) × (map content (take n ws) ≡ map Some (take m p))
 first_part zero k ws p e = (0, refl)
 first_part (suc n) k [] p e = (0, refl)
-first_part (suc n) zero (r ∷ ws) p e = absurd (nil_cons (sym e))
-first_part (suc n) (suc k) (r ∷ ws) [] e = absurd (nil_cons (sym e))
+first_part (suc n) zero (r ∷ ws) p e = absurd (nil≢cons (sym e))
+first_part (suc n) (suc k) (r ∷ ws) [] e = absurd (nil≢cons (sym e))
 first_part (suc n) (suc k) (r ∷ ws) (x ∷ p) e =
     let head : content r ≡ Some x = cc e in
     let tail : map content ws ≡ map Some (take k p) = cc e in
