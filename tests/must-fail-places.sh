@@ -121,10 +121,22 @@ try() { # CRATE [EDIT]
     fi
 }
 
-# As many at once as there are processors.
-at_once() { # CRATE [EDIT]
-    while [ "$(jobs -rp | wc -l)" -ge "$(nproc)" ]; do wait -n || true; done
-    try "$@" &
+# As many at once as there are processors: a check takes a token, and gives it back.
+mkfifo "$room/tokens"
+exec 9<>"$room/tokens"
+for ((i = 0; i < $(nproc); i++)); do echo >&9; done
+in_turn() { # CRATE [EDIT]
+    read -r -u9
+    try "$@"
+    echo >&9
+}
+
+# The edits of a crate, behind a check without one (one edit alone begins with nothing: that check would cost as much).
+each_edit() { # CRATE
+    local edits=("crates/$1"/must-fail/*.edit) edit
+    [ "${#edits[@]}" -eq 1 ] || in_turn "$1"
+    for edit in "${edits[@]}"; do in_turn "$1" "$edit" & done
+    wait
 }
 
 logs=${LOGS:-$room/logs}
@@ -132,13 +144,9 @@ crates=()
 for crate in ${@:-${!uses[@]}}; do
     ! ls crates/"$crate"/must-fail/*.edit >/dev/null 2>&1 || crates+=("$crate")
 done
-# (one edit alone begins with nothing: a check without it would cost as much)
-for crate in "${crates[@]}"; do
-    [ "$(ls crates/"$crate"/must-fail/*.edit | wc -l)" -eq 1 ] || at_once "$crate"
-done
-wait
-for crate in "${crates[@]}"; do
-    for edit in crates/"$crate"/must-fail/*.edit; do at_once "$crate" "$edit"; done
+# The largest first.
+for crate in $(for crate in "${crates[@]}"; do echo "$(find "crates/$crate"/{src,specs,proofs} -type f -print0 2>/dev/null | du -cb --files0-from=- | tail -n 1 | cut -f 1) $crate"; done | sort -rn | cut -d ' ' -f 2); do
+    each_edit "$crate" &
 done
 wait
 for crate in "${crates[@]}"; do

@@ -112,7 +112,7 @@ pub fn print_answer(
         asked,
         commands,
     };
-    answer.print_prepared(rt)?;
+    answer.print_prepared(to)?;
     answer.print_shows(to, shows)?;
     answer.print_minimum(to)
 }

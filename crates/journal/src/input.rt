@@ -1,5 +1,6 @@
 // Standard input in pieces: the next line, the next command, the next record.
-ghost use Rattle.std.specs.Prelude.{◌≤◌, IfSome};
+ghost use Rattle.std.specs.Prelude.{◌≡◌, ◌≤◌, IfSome};
+ghost use Rattle.streams.specs.declared.Failed.TheVariants.{Input};
 
 use codec::WalRecord;
 use std::io::{Read, Stdin};
@@ -22,7 +23,10 @@ pub struct Source<'a> {
 
 impl<'a> Source<'a> {
     // Nothing was read yet.
-    pub fn new(rt: HostRuntime, buffer: &'a mut [u8]) -> Source<'a> {
+    pub fn new(rt: HostRuntime, buffer: &'a mut [u8]) -> Source<'a>
+        ensures nothing { (result.at ≡ 0) × (result.len ≡ 0) }
+        ensures outcome { result.outcome ≡ (Ok tt) }
+    {
         Source {
             stdin: streams::stdin(rt),
             buffer,
@@ -33,7 +37,9 @@ impl<'a> Source<'a> {
     }
 
     // Whether every read so far brought bytes or the input's end.
-    pub fn outcome(&self) -> Result<(), Failed> {
+    pub fn outcome(&self) -> Result<(), Failed>
+        ensures { result ≡ self.now.outcome }
+    {
         self.outcome
     }
 

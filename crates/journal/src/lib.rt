@@ -4,7 +4,7 @@
 
 pub mod input;
 
-ghost use Rattle.std.specs.Prelude.{◌≡◌, ◌≤◌, ◌<◌, false};
+ghost use Rattle.std.specs.Prelude.{◌≡◌, ◌≤◌, ◌+◌, ◌%◌, ◌^◌, min, false, IfOk};
 ghost use Rattle.arrayvec.specs.ArrayVec.{array_vec_len};
 
 use arrayvec::ArrayVec;
@@ -53,8 +53,8 @@ fn read_commands(source: &mut Source, most: usize, commands: &mut Commands) {
 
 // The next records, at most 256 and at most `most`, up to a line that is missing or cannot be read.
 pub fn read_chunk(source: &mut Source, most: usize, lens: &[u8]) -> Chunk
-    ensures within { array_vec_len result.records ≤ most }
-    ensures some { result.bad ≡ false → 0 < most → 0 < array_vec_len result.records }
+    ensures within { array_vec_len result.records ≤ min most 256 }
+    ensures whole { result.bad ≡ false → array_vec_len result.records ≡ min most 256 }
 {
     let mut records = ArrayVec::new();
     for _ in 0..most.min(256) {
@@ -70,7 +70,9 @@ pub fn read_chunk(source: &mut Source, most: usize, lens: &[u8]) -> Chunk
 }
 
 // The number of the line behind so many headers, commands and records.
-pub fn line_behind(headers: u64, commands: usize, records: usize) -> u64 {
+pub fn line_behind(headers: u64, commands: usize, records: usize) -> u64
+    ensures { result ≡ (headers + commands + records + 1) % 2 ^ 64 }
+{
     headers
         .wrapping_add(commands as u64)
         .wrapping_add(records as u64)
@@ -106,7 +108,9 @@ fn observe_all(
 }
 
 // The lines before the records: the commands, and how many records are given; or the number of the line that cannot be read.
-pub fn open(source: &mut Source, commands: &mut Commands) -> Result<usize, u64> {
+pub fn open(source: &mut Source, commands: &mut Commands) -> Result<usize, u64>
+    ensures { IfOk result (λ n. n ≤ 4096) }
+{
     let Some(n) = source
         .next_line()
         .and_then(|line| record::commands_of(&line))

@@ -1,7 +1,7 @@
 // What a whole line says: a record, or a header's number.
 #![tactic(auto, unfolding(crate::specs::Record::foreign_on, crate::specs::Record::hard_state_on, crate::specs::Record::pointer_on, crate::specs::Record::entry_on, crate::specs::Record::command_at, crate::specs::Record::change_on, crate::specs::Record::payload_on, crate::specs::Record::line_record, crate::specs::Record::line_header))]
 
-ghost use Rattle.std.specs.Prelude.{◌≡◌, ◌≤◌, ◌+◌};
+ghost use Rattle.std.specs.Prelude.{◌≡◌, ◌≤◌, ◌+◌, IfSome};
 ghost use Rattle.text.specs.Text.{commands_word, records_word};
 ghost use Rattle.text.specs.Field.{number_on, vote_on};
 ghost use Rattle.text.specs.Record.{identity_from, hard_state_from, pointer_on, foreign_on, hard_state_on, pointer_record_on, entry_on, command_at, change_on, payload_on, body_on, line_record, line_header, at_most256};
@@ -189,7 +189,8 @@ pub fn record_of(line: &Line, lens: &[u8]) -> Option<WalRecord>
 
 // The number behind a word of at most 16 bytes, up to `most`.
 pub fn header_of(line: &Line, word: &[u8], most: u64) -> Option<u64>
-    ensures { result ≡ line_header line.now word.now most }
+    ensures value { result ≡ line_header line.now word.now most }
+    ensures few { IfSome result (λ n. n ≤ most) }
 {
     if line.count != 1 || !line.fields[0].is_word(word) {
         return None;
@@ -199,14 +200,16 @@ pub fn header_of(line: &Line, word: &[u8], most: u64) -> Option<u64>
 
 // commands N, at most 256
 pub fn commands_of(line: &Line) -> Option<u64>
-    ensures { result ≡ line_header line.now commands_word 256 }
+    ensures value { result ≡ line_header line.now commands_word 256 }
+    ensures few { IfSome result (λ n. n ≤ 256) }
 {
     header_of(line, b"commands", 256)
 }
 
 // records N, at most 4,096
 pub fn records_of(line: &Line) -> Option<u64>
-    ensures { result ≡ line_header line.now records_word 4096 }
+    ensures value { result ≡ line_header line.now records_word 4096 }
+    ensures few { IfSome result (λ n. n ≤ 4096) }
 {
     header_of(line, b"records", 4096)
 }
