@@ -66,7 +66,7 @@ done
 } >"$room/long"
 tried=$((tried + 1))
 crates/batch/out/batch <"$room/long" >"$room/whole"
-{ output_does_not_block && crates/batch/out/batch <"$room/long" || echo "status $?"; } | { sleep 0.3; cat; } >"$room/slow"
+{ output_does_not_block && crates/batch/out/batch <"$room/long" || echo "streams: status $?" >&2; } | { sleep 0.3; cat; } >"$room/slow"
 cmp -s "$room/whole" "$room/slow" || say "batch: a slow reader: $(wc -c <"$room/slow") bytes of $(wc -c <"$room/whole")"
 
 [ "$wrong" -eq 0 ] || exit 1

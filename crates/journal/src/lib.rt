@@ -4,7 +4,9 @@
 
 pub mod input;
 
-ghost use Rattle.std.specs.Prelude.{◌≡◌, ◌≤◌, ◌+◌, ◌%◌, ◌^◌, min, false, IfOk};
+ghost use Rattle.std.specs.Prelude.{◌≡◌, ◌≤◌, ℕ, min, false, IfOk};
+ghost use Rattle.store.specs.Zeros.{zeros};
+ghost use Rattle.journal.specs.Recovered.{line_number, Follows};
 ghost use Rattle.arrayvec.specs.ArrayVec.{array_vec_len};
 
 use arrayvec::ArrayVec;
@@ -71,7 +73,7 @@ pub fn read_chunk(source: &mut Source, most: usize, lens: &[u8]) -> Chunk
 
 // The number of the line behind so many headers, commands and records.
 pub fn line_behind(headers: u64, commands: usize, records: usize) -> u64
-    ensures { result ≡ (headers + commands + records + 1) % 2 ^ 64 }
+    ensures { result ≡ line_number headers commands records }
 {
     headers
         .wrapping_add(commands as u64)
@@ -85,7 +87,11 @@ fn observe_all(
     most: usize,
     commands: &Commands,
     store: &mut [u8],
-) -> Result<Recovered, Stop> {
+) -> Result<Recovered, Stop>
+    requires { most ≤ 4096 }
+    ensures follows { store.old ≡ zeros 32768 → IfOk result (λ d. Follows most d.state store.new) }
+    ensures line { IfOk result (λ d. d.line ≡ line_number 2 commands.now.count most) }
+{
     let mut state = RecoveredRaftStorage::fresh();
     let mut done: usize = 0;
     // No `for`: a turn goes on by what its read brought.
@@ -130,12 +136,15 @@ pub fn open(source: &mut Source, commands: &mut Commands) -> Result<usize, u64>
     Ok(records as usize)
 }
 
-// A journal: what stands behind its last record is left.
+// A journal: what stands behind its last record is left. Over a store of zeros, what is recovered is sound, and what the definition
+// leaves of as many records as there were, all accepted; which records these are no contract says.
 pub fn recover(
     source: &mut Source,
     commands: &mut Commands,
     store: &mut [u8],
-) -> Result<Recovered, Stop> {
+) -> Result<Recovered, Stop>
+    ensures follows { store.old ≡ zeros 32768 → IfOk result (λ d. (n : ℕ) × (n ≤ 4096) × (d.line ≡ line_number 2 commands.new.count n) × Follows n d.state store.new) }
+{
     let most = open(source, commands).map_err(|line| Stop::Malformed(line))?;
     observe_all(source, most, commands, store)
 }

@@ -36,7 +36,7 @@ use Rattle.recovery.specs.Runs.{chunk_of, chunk_records}
 use Rattle.recovery.specs.Program.{Call, one, chunk, Kept, records_of, answers_of, state_after_calls, store_after_calls, Recovers, outcome_of, ProgramAgrees, ChunkTells, EachOfRun, ProgramGuarantees, ProgramViewsIsLarger}
 
 -- A record is counted once at most.
-abbrev scanned : Recovery → ℕ
+abbrev pub scanned : Recovery → ℕ
 scanned w = w.state.scanned_records
 
 guarded_scanned : (o : Option ℕ) (s : State) (lsn : ℕ) (c : Content) → (guarded o s lsn c).next.scanned_records ≤ s.scanned_records + 1
@@ -52,7 +52,7 @@ observe_scanned w r = go (first_of (unsound_store w ∷ [])) refl
     go (Some n) e = rw (e, with_store) (omega arith)
     go None e = rw (e, with_store) (guarded_scanned (first_of (unsound_state w.state ∷ non_increasing_wal_lsn w.state r.lsn ∷ [])) w.state r.lsn (content r))
 
-observed_scanned : (w : Recovery) (rs : List Record) → scanned (observed w rs) ≤ scanned w + length rs
+pub observed_scanned : (w : Recovery) (rs : List Record) → scanned (observed w rs) ≤ scanned w + length rs
 unfolding observed
 observed_scanned w [] = omega arith
 observed_scanned w (r ∷ rs) =
@@ -67,10 +67,10 @@ pub record Left (s : RecoveredRaftStorage) (st : List ℕ) (cs : List Call) : Ty
   pub sound : sound_test (state_after_calls s cs) (store_after_calls st cs) ≡ true
   pub machine : every fits (records_of cs) ≡ true
 
-abbrev counted : RecoveredRaftStorage → ℕ
+abbrev pub counted : RecoveredRaftStorage → ℕ
 counted s = s.scan.scanned_records
 
-count_is : (s : RecoveredRaftStorage) (st : List ℕ) (w : Recovery) → recovery_of s st ≡ w → counted s ≡ scanned w
+pub count_is : (s : RecoveredRaftStorage) (st : List ℕ) (w : Recovery) → recovery_of s st ≡ w → counted s ≡ scanned w
 unfolding meaning
 count_is s st w e = ap scanned e
 
