@@ -1,5 +1,5 @@
 // A journal on standard input, from its first line to its last record, or to the first line that is refused or cannot be read.
-// What a read brings is not known to a contract: these functions promise that they end and stay inside their buffers.
+// What a read brings is not known to a contract: these functions promise what holds whatever it is.
 #![tactic(auto)]
 
 pub mod input;
