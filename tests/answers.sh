@@ -43,14 +43,22 @@ limit() {
     same batch shows-4097 'line 4103 malformed\n' < <(shows 4097)
 }
 
-# Every number that a run can answer stands in at least three stored answers: all but 1 (no journal leaves an unsound state) and 29
-# (retired).
+# Every number that a run can answer stands in the answers to at least three stored inputs, however often in each: all but 1 (no journal
+# leaves an unsound state) and 29 (retired). In `checks` each line is a question of its own, so there lines count.
 numbers() {
     local seen n
-    seen=$(cut -f3 tests/*/texts.tsv tests/*/vectors.tsv | sed 's/\\n/\n/g' | awk '/refused/ { n[$NF]++ } END { for (i in n) print i, n[i] }')
+    seen=$(awk -F'\t' '{
+        lines = split($3, line, /\\n/)
+        for (i = 1; i <= lines; i++) if (line[i] ~ /refused/) {
+            n = line[i]
+            sub(/.* /, "", n)
+            if (FILENAME ~ /^tests\/checks\// || last[n] != NR) count[n]++
+            last[n] = NR
+        }
+    } END { for (n in count) print n, count[n] }' tests/*/texts.tsv tests/*/vectors.tsv)
     for ((n = 2; n <= 56; n++)); do
         [ "$n" -ne 29 ] || continue
-        awk -v n="$n" '$1 == n && $2 >= 3 { found = 1 } END { exit !found }' <<<"$seen" || say "refusal $n stands in fewer than three answers"
+        awk -v n="$n" '$1 == n && $2 >= 3 { found = 1 } END { exit !found }' <<<"$seen" || say "refusal $n stands in the answers to fewer than three inputs"
     done
 }
 
