@@ -165,6 +165,7 @@ pub fn all(from: &Trial<impl Print>) -> io::Result<()> {
         rt: from.rt,
         state: states::bare(),
         store: &[0; 32768],
+        second: true,
     };
     unscanned(&blank)?;
     indices(&blank)

@@ -1,5 +1,6 @@
-// States made by hand, sound and not, through the library: odd ones must be taken, and each broken clause of soundness is refused by 1
-// with state and store as they were. And how many records are taken of a list.
+// States made by hand, sound and not, through the library: a record of each kind, finishing, a batch and a reading. None of the odd ones
+// may be refused by 1, and each broken clause of soundness is refused by 1 each time, with state and store as they were. And how many
+// records are taken of a list.
 #![tactic(auto)]
 
 mod broken;
@@ -38,6 +39,7 @@ fn states_by_hand(rt: &impl Print, lent: &[u8]) -> io::Result<()> {
         rt,
         state: done.state,
         store: &store,
+        second: false,
     };
     odd::all(&from)?;
     broken::all(&from)

@@ -1,4 +1,5 @@
-// States that are odd and yet sound: none may be refused by 1. The first two are the states that the broken ones start from.
+// States that are odd and yet sound: none may be refused by 1. The first two are the states that the broken ones start from. Where what
+// is odd is the second replica's, the records are of that one.
 use crate::trying::Trial;
 use crate::{records, states, text};
 use recovery::observing;
@@ -66,10 +67,11 @@ fn last_count(rt: &impl Print, s: RecoveredRaftStorage, store: &[u8; 32768]) -> 
     let mut copy = *store;
     let two = [records::foreign(11), records::foreign(12)];
     let done = observing::observe_records(s, &two, b"", &mut copy);
-    print!(rt; "odd scanned-2^64-2 chunk of 2 taken {} ", done.taken)?;
-    text::answer(rt, "foreign", &done.answer)?;
-    print!(rt; " then finish ")?;
-    text::answer(rt, "finished", &finishing::finish(done.state, store).answer)?;
+    let finished = finishing::finish(done.state, store);
+    print!(rt; "odd scanned-2^64-2 chunk of 2 taken {}", done.taken)?;
+    text::observed(rt, "foreign", "refused ", &done.answer)?;
+    print!(rt; " then")?;
+    text::answer(rt, "finish", "finished", "refused ", &finished.answer)?;
     println!(rt; "")
 }
 
@@ -85,6 +87,7 @@ pub fn all(from: &Trial<impl Print>) -> io::Result<()> {
         rt: from.rt,
         state: states::bare(),
         store: &[0; 32768],
+        second: true,
     };
     from.odd("two-replicas", from.state)?;
     blank.odd("nothing-scanned", blank.state)?;

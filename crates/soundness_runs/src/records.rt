@@ -1,10 +1,12 @@
-// Records: of no Raft kind, and the seven that leave a small state with two replicas.
+// Records: of no Raft kind, the seven that leave a small state with two replicas, and those that a replica may have next.
+use batches::BatchEntry;
 use codec::{
     Checksum, DurableRaftEntryPayload, HardState, RaftHardStateRecord, RaftLogEntryRecord,
     RaftSnapshotPointerRecord, RaftWalRecord, WalRecord,
 };
 use ids::{Lsn, RaftGroupId, RaftReplicaIdentity, ReplicaId};
 use std::array;
+use view::Header;
 
 pub fn identity(group: u64, replica: u64) -> RaftReplicaIdentity {
     RaftReplicaIdentity {
@@ -13,11 +15,16 @@ pub fn identity(group: u64, replica: u64) -> RaftReplicaIdentity {
     }
 }
 
-pub fn foreign(lsn: u64) -> WalRecord {
+// A record; one of no Raft kind has no body.
+pub fn record(lsn: u64, body: Option<RaftWalRecord>) -> WalRecord {
     WalRecord {
         lsn: Lsn(lsn),
-        body: None,
+        body,
     }
+}
+
+pub fn foreign(lsn: u64) -> WalRecord {
+    record(lsn, None)
 }
 
 fn entry(
@@ -36,15 +43,19 @@ fn entry(
     })
 }
 
-fn hard_state(owner: RaftReplicaIdentity, term: u64, voted: u64, commit: u64) -> RaftWalRecord {
+fn voted(term: u64, vote: u64, commit: u64) -> HardState {
+    HardState {
+        current_term: term,
+        voted_for: Some(ReplicaId(vote)),
+        commit,
+    }
+}
+
+fn hard_state(owner: RaftReplicaIdentity, h: HardState) -> RaftWalRecord {
     RaftWalRecord::HardState(RaftHardStateRecord {
         format_version: 1,
         identity: owner,
-        hard_state: HardState {
-            current_term: term,
-            voted_for: Some(ReplicaId(voted)),
-            commit,
-        },
+        hard_state: h,
     })
 }
 
@@ -68,10 +79,7 @@ pub fn pointer(owner: RaftReplicaIdentity, index: u64, term: u64) -> RaftSnapsho
 }
 
 fn at(lsn: u64, kind: RaftWalRecord) -> WalRecord {
-    WalRecord {
-        lsn: Lsn(lsn),
-        body: Some(kind),
-    }
+    record(lsn, Some(kind))
 }
 
 // Replica 1 1 with entries 1 and 2 (5 and 64 bytes) and a hard state; replica 2 3 with pointer 5 of term 2, entries 6 and 7 (6 and
@@ -82,15 +90,50 @@ pub fn two_replicas() -> [WalRecord; 7] {
     [
         at(3, entry(one, 1, 1, 1, 5)),
         at(4, entry(one, 2, 1, 2, 64)),
-        at(6, hard_state(one, 1, 2, 1)),
+        at(6, hard_state(one, voted(1, 2, 1))),
         at(7, RaftWalRecord::SnapshotPointer(pointer(two, 5, 2))),
         at(8, entry(two, 6, 2, 3, 6)),
         at(9, entry(two, 7, 3, 4, 7)),
-        at(10, hard_state(two, 3, 3, 6)),
+        at(10, hard_state(two, voted(3, 3, 6))),
     ]
 }
 
 // 256 records of no Raft kind, with rising LSNs.
 pub fn foreign_records() -> [WalRecord; 256] {
     array::from_fn(|i| foreign(i as u64))
+}
+
+// The bytes that the next entry's command stands in.
+pub fn lent() -> &'static [u8] {
+    b"stop 17"
+}
+
+// The index behind the last one, or 2^64 - 1.
+fn next_index(h: Header) -> u64 {
+    h.last().saturating_add(1)
+}
+
+// What a replica may have next, in term 9: an entry, a hard state that commits what the view does, and a pointer at that entry's index.
+pub fn next_entry(h: Header) -> BatchEntry {
+    BatchEntry {
+        index: next_index(h),
+        term: 9,
+        payload: DurableRaftEntryPayload::Normal { place: 0, len: 7 },
+    }
+}
+
+pub fn next_hard_state(h: Header) -> HardState {
+    voted(9, 2, h.committed_index)
+}
+
+pub fn next_entry_record(h: Header) -> RaftWalRecord {
+    RaftWalRecord::Entry(next_entry(h).record(h.identity))
+}
+
+pub fn next_hard_state_record(h: Header) -> RaftWalRecord {
+    hard_state(h.identity, next_hard_state(h))
+}
+
+pub fn next_pointer_record(h: Header) -> RaftWalRecord {
+    RaftWalRecord::SnapshotPointer(pointer(h.identity, next_index(h), 9))
 }
