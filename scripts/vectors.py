@@ -6,8 +6,8 @@ original.
 
 ORACLE is the folder of the oracle's built programs. Its gen-journals makes POOL inputs of each kind from SEED, and document 01's cases.
 Kept are the cases, the first FIRST of each kind, the first long ones, and, the shortest first, each input with a refusal number that
-has come fewer than OFTEN times in the program's answers. A line is a name, the input and the answer, as in texts.tsv. No clock and no
-other seed comes in: the same oracle writes the same files.
+stands in the program's answers to fewer than OFTEN of those kept so far. A line is a name, the input and the answer, as in texts.tsv. No
+clock and no other seed comes in: the same oracle writes the same files.
 """
 import collections, glob, os, re, subprocess, sys, tempfile
 from texts import escaped
@@ -40,7 +40,7 @@ def chosen(oracle, program, folder):
 
     def keep(name, text, answer):
         kept[name] = (text, answer)
-        seen.update(numbers(answer))
+        seen.update(set(numbers(answer)))
 
     rest = []
     for kind in KINDS[program]:
