@@ -1,6 +1,6 @@
 -- What is shown of a previewed index, and what it means.
 -- Assumes nothing.
-use Rattle.std.specs.Prelude.{◌≡◌, true, false, List, ℕ, ◌+◌, ◌*◌, get_or, Option, None, Some}
+use Rattle.std.specs.Prelude.{◌≡◌, true, false, List, ℕ, ◌+◌, ◌*◌, min, length, get_or, Option, None, Some}
 use Rattle.definition.specs.Recovery.{sound}
 use Rattle.definition.specs.Batch as M
 use Rattle.ids.specs.declared.RaftReplicaIdentity.{RaftReplicaIdentity}
@@ -33,6 +33,16 @@ pub record ShowsAt {A : Type 0} (s : RecoveredRaftStorage) (st : List ℕ) (i : 
   pub refused : sound_test s st ≡ false → r ≡ f M.nothing
   -- what means no sound state is among these: the definition shows nothing either
   pub unsound : sound (recovery_of s st) ≡ false → r ≡ f (M.previewed_at (recovery_of s st) (identity_of i) (batch_of b lent) index)
+
+-- Where a part of some bytes begins, as far as they reach: an address is a block of memory and a place in it.
+abbrev pub address_at : ℕ × ℕ → List ℕ → ℕ → ℕ × ℕ
+address_at address bytes at = (address.0, address.1 + min at (length bytes))
+
+-- Where what is shown begins: in the store, at its front where nothing is shown, or in the bytes lent with the batch.
+abbrev pub shown_address : ℕ × ℕ → List ℕ → ℕ × ℕ → List ℕ → M.Shown → ℕ × ℕ
+shown_address store st lent bytes M.nothing = store
+shown_address store st lent bytes (M.of_log place len) = address_at store st place
+shown_address store st lent bytes (M.of_batch place len) = address_at lent bytes place
 
 -- The model. A command of the preview, by where the batch supplied the index and where the replica stands.
 abbrev pub command_shown : Own → Option ℕ → ℕ → ℕ → Option Shown

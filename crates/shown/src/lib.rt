@@ -4,7 +4,7 @@
 ghost use Rattle.std.specs.Prelude.{◌≡◌, List, ℕ, ◌<◌, ◌≤◌, length, take, drop};
 ghost use Rattle.definition.specs.Batch.{shown_bytes, supplied};
 ghost use Rattle.batches.specs.Meaning.{entries_of};
-ghost use Rattle.shown.specs.Shows.{shown_of, ShowsAt, payload_shown, shown_by};
+ghost use Rattle.shown.specs.Shows.{shown_of, ShowsAt, address_at, shown_address, payload_shown, shown_by};
 
 use batches::{BatchEntry, RaftPersistenceBatch};
 use ids::RaftReplicaIdentity;
@@ -65,6 +65,7 @@ fn show(own: Own, preview: Preview, entries: &[BatchEntry], index: u64) -> Optio
 pub fn part(bytes: &[u8], at: usize, len: usize) -> &[u8]
     ensures bytes { result.now ≡ take len (drop at bytes.now) }
     ensures short { length result.now ≤ len }
+    ensures place { result.ref_ptr ≡ address_at bytes.entry.ref_ptr bytes.now at }
 {
     let rest = &bytes[at.min(bytes.len())..];
     &rest[..len.min(rest.len())]
@@ -107,8 +108,7 @@ pub fn previewed_at(
     previewed_sound(&sound, identity, batch, lent, index)
 }
 
-// The command of a previewed index: a part of the store or of the lent bytes, an empty part of the store where there is none. The contract
-// says which bytes; of which of the two slices they are (`previewed_at` says it) it leaves free.
+// The command of a previewed index: a part of the store or of the lent bytes, an empty part of the store where there is none.
 pub fn previewed_command<'a>(
     state: RecoveredRaftStorage,
     store: &'a [u8],
@@ -117,7 +117,8 @@ pub fn previewed_command<'a>(
     lent: &'a [u8],
     index: u64,
 ) -> &'a [u8]
-    ensures { ShowsAt state store.now identity batch.entry lent.now index (shown_bytes store.now lent.now) result.now }
+    ensures bytes { ShowsAt state store.now identity batch.entry lent.now index (shown_bytes store.now lent.now) result.now }
+    ensures place { ShowsAt state store.now identity batch.entry lent.now index (shown_address store.entry.ref_ptr store.now lent.entry.ref_ptr lent.now) result.ref_ptr }
 {
     match previewed_at(state, store, identity, batch, lent, index) {
         None => &store[..0],
