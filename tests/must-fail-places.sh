@@ -5,7 +5,8 @@
 # read: there must be one of that declaration's own (not one that only passes on another's) in which a fact fails. That the proof names a
 # place which the edited program no longer has shows nothing. Nor may a definition be refused, or the edited text not be read: an edit
 # that makes no sense shows nothing either. Counted apart, as weaker: faults whose only errors say that a rewrite no longer applies (what
-# the program tests or does is not what the goal speaks of). With LOGS=FOLDER the logs stay there. Run after rt ci.
+# the program tests or does is not what the goal speaks of). With LOGS=FOLDER the logs stay there. With EDITS=FOLDER the edits are those of
+# FOLDER/NAME in place of crates/NAME/must-fail (scripts/wrong_programs.sh). Run after rt ci.
 set -euo pipefail
 cd "$(dirname "${BASH_SOURCE[0]}")/.."
 
@@ -103,6 +104,11 @@ judge() { # EDIT LOG
     [ -z "$unread" ] || say "$1: the edited text cannot be read: '$(head -n 1 <<<"$unread")'"
 }
 
+# Where the edits of a crate stand.
+folder_of() { # CRATE
+    if [ -n "${EDITS:-}" ]; then echo "$EDITS/$1"; else echo "crates/$1/must-fail"; fi
+}
+
 # One edit, or none, in a copy of its own.
 try() { # CRATE [EDIT]
     local label=${2:-} copy log
@@ -127,13 +133,13 @@ exec 9<>"$room/tokens"
 for ((i = 0; i < $(nproc); i++)); do echo >&9; done
 in_turn() { # CRATE [EDIT]
     read -r -u9
-    try "$@"
+    try "$@" || true
     echo >&9
 }
 
 # The edits of a crate, behind a check without one (one edit alone begins with nothing: that check would cost as much).
 each_edit() { # CRATE
-    local edits=("crates/$1"/must-fail/*.edit) edit
+    local edits=("$(folder_of "$1")"/*.edit) edit
     [ "${#edits[@]}" -eq 1 ] || in_turn "$1"
     for edit in "${edits[@]}"; do in_turn "$1" "$edit" & done
     wait
@@ -142,7 +148,7 @@ each_edit() { # CRATE
 logs=${LOGS:-$room/logs}
 crates=()
 for crate in ${@:-${!uses[@]}}; do
-    ! ls crates/"$crate"/must-fail/*.edit >/dev/null 2>&1 || crates+=("$crate")
+    ! ls "$(folder_of "$crate")"/*.edit >/dev/null 2>&1 || crates+=("$crate")
 done
 # The largest first.
 for crate in $(for crate in "${crates[@]}"; do echo "$(find "crates/$crate"/{src,specs,proofs} -type f -print0 2>/dev/null | du -cb --files0-from=- | tail -n 1 | cut -f 1) $crate"; done | sort -rn | cut -d ' ' -f 2); do
@@ -151,7 +157,7 @@ done
 wait
 for crate in "${crates[@]}"; do
     [ ! -e "$logs/$crate/seed.log" ] || grep -q '^logic=proved' "$logs/$crate/seed.log" || { say "$crate is not proved as it stands: '$(grep -m 1 error "$logs/$crate/seed.log")'"; continue; }
-    for edit in crates/"$crate"/must-fail/*.edit; do
+    for edit in "$(folder_of "$crate")"/*.edit; do
         judge "$edit" "$logs/$crate/$(basename "$edit" .edit).log"
     done
 done
