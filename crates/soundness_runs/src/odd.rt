@@ -2,6 +2,7 @@
 // is odd is the second replica's, the records are of that one.
 use crate::trying::Trial;
 use crate::{records, states, text};
+use codec::RaftWalRecord;
 use recovery::observing;
 use std::io;
 use storage::RecoveredRaftStorage;
@@ -75,6 +76,26 @@ fn last_count(rt: &impl Print, s: RecoveredRaftStorage, store: &[u8; 32768]) -> 
     println!(rt; "")
 }
 
+// The pointer that the second replica keeps names another replica, and comes again as its own: 40 compares the other fields.
+fn pointer_again(rt: &impl Print, store: &[u8; 32768]) -> io::Result<()> {
+    let s = states::bounded(5, 2, 0);
+    let kept = Header {
+        snapshot: Some(records::pointer(records::identity(1, 1), 5, 2)),
+        ..s.heads[1]
+    };
+    let own = RaftWalRecord::SnapshotPointer(records::pointer(records::identity(2, 3), 5, 2));
+    let mut copy = *store;
+    let done = observing::observe_record(
+        states::with_head(s, 1, kept),
+        records::record(11, Some(own)),
+        b"",
+        &mut copy,
+    );
+    print!(rt; "odd pointer-of-another-replica comes again as its own")?;
+    text::observed(rt, "pointer", "refused ", &done.answer)?;
+    println!(rt; "")
+}
+
 fn scanned(from: &Trial<impl Print>) -> io::Result<()> {
     let s = states::with_scanned(from.state, u64::MAX - 1);
     from.odd("scanned-2^64-2", s)?;
@@ -95,6 +116,7 @@ pub fn all(from: &Trial<impl Print>) -> io::Result<()> {
     changes(&blank)?;
     boundaries(&blank)?;
     pointer_lsn(from)?;
+    pointer_again(blank.rt, blank.store)?;
     garbage(from)?;
     scanned(from)
 }
