@@ -1,5 +1,5 @@
 // Standard input in pieces: the next line, the next command, the next record.
-ghost use Rattle.std.specs.Prelude.{◌≡◌, ◌≤◌, IfSome};
+ghost use Rattle.std.specs.Prelude.{◌≡◌, ◌≤◌, IfSome, Err};
 ghost use Rattle.streams.specs.declared.Failed.TheVariants.{Input};
 
 use codec::WalRecord;
@@ -49,7 +49,9 @@ impl<'a> Source<'a> {
     }
 
     // Reads until the buffer is full, the input ends or a read fails: whether a byte came.
-    fn refill(&mut self) -> bool {
+    fn refill(&mut self) -> bool
+        ensures kept { self.old.outcome ≡ Err Input → self.new.outcome ≡ Err Input }
+    {
         self.at = 0;
         self.len = 0;
         if self.outcome.is_err() {
@@ -74,6 +76,7 @@ impl<'a> Source<'a> {
     // up so many turns.
     fn next<F: FnMut(&[u8]) -> Option<usize>>(&mut self, mut read: F) -> bool
         requires { F.IsAlwaysCallable read }
+        ensures kept { self.old.outcome ≡ Err Input → self.new.outcome ≡ Err Input }
     {
         let mut found = false;
         for _ in 0..u64::MAX {
@@ -91,20 +94,26 @@ impl<'a> Source<'a> {
         found
     }
 
-    pub fn next_line(&mut self) -> Option<Line> {
+    // The next line, where there is one. No contract says which; that a read failed is never forgotten.
+    pub fn next_line(&mut self) -> Option<Line>
+        ensures kept { self.old.outcome ≡ Err Input → self.new.outcome ≡ Err Input }
+    {
         let mut line = Line::blank();
         self.next(|bytes| line.read(bytes)).then_some(line)
     }
 
     // The next line as a record; none where it is missing or cannot be read.
-    pub fn next_record(&mut self, lens: &[u8]) -> Option<WalRecord> {
+    pub fn next_record(&mut self, lens: &[u8]) -> Option<WalRecord>
+        ensures kept { self.old.outcome ≡ Err Input → self.new.outcome ≡ Err Input }
+    {
         record::record_of(&self.next_line()?, lens)
     }
 
     // The length of the next line as a command; none where it is missing or cannot be read. Its bytes go to the start of `out`. An
     // empty line is the empty command.
     pub fn next_command(&mut self, out: &mut [u8]) -> Option<usize>
-        ensures { IfSome result (λ len. len ≤ 65) }
+        ensures short { IfSome result (λ len. len ≤ 65) }
+        ensures kept { self.old.outcome ≡ Err Input → self.new.outcome ≡ Err Input }
     {
         let mut command = Command::blank();
         if !self.next(|bytes| command.read(bytes, out)) {
