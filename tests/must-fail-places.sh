@@ -150,8 +150,9 @@ crates=()
 for crate in ${@:-${!uses[@]}}; do
     ! ls "$(folder_of "$crate")"/*.edit >/dev/null 2>&1 || crates+=("$crate")
 done
-# The largest first.
-for crate in $(for crate in "${crates[@]}"; do echo "$(find "crates/$crate"/{src,specs,proofs} -type f -print0 2>/dev/null | du -cb --files0-from=- | tail -n 1 | cut -f 1) $crate"; done | sort -rn | cut -d ' ' -f 2); do
+# The largest crate first.
+size_of() { cat "crates/$1"/src/*.rt "crates/$1"/{specs,proofs}/*.antt 2>/dev/null | wc -c; }
+for crate in $(for crate in "${crates[@]}"; do echo "$(size_of "$crate") $crate"; done | sort -rn | cut -d ' ' -f 2); do
     each_edit "$crate" &
 done
 wait
