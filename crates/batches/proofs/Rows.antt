@@ -68,11 +68,6 @@ module _ (i : Identity) (b : M.Batch) (v : M.Preview) (h : Header) (es : List Re
         before_both (pointer_form_rows (pointer_record_of p)) (M.snapshot_identity_mismatch i (pointer_record_of p) ∷ after (pointer_record_of p))
         (M.snapshot_identity_mismatch i (pointer_record_of p) ∷ placed_rows i h v.lsn held p) (after_same (same i (pointer_record_of p).identity) refl)
 
-  -- 25 alone.
-  pub boundary_row : (e : LogEntry) → D.entry_at_or_below_snapshot e v.log ∷ [] ≡ boundary_rows h e.index
-  unfolding view_of
-  boundary_row e = rw means
-
   -- An entry: what is told of the entry at its index is so, and `prior` is the predecessor's term.
   module _ (was : D.Log ℕ) (e : LogEntry) (old : Option Existing) (prior : ℕ) (tells : Tells old (D.at (view_of h es cs) e.index) e) (before : D.predecessor_term (view_of h es cs) e.index ≡ prior) where
     pub entry_rows : first_of (M.batch_entry_rows i b was e v) ≡ first_of (entry_form_rows v.lsn e ++ boundary_rows h e.index ++ replay_rows_of h old prior e.index e.term)

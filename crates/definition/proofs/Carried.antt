@@ -12,7 +12,7 @@ use Rattle.std.specs.Prelude.{if◌then◌else◌, not, Option, None, Some, opti
 use Rattle.definition.specs.Table.{◌≤?◌, first_of, is_some}
 use Rattle.definition.specs.Records.{Identity, same, Kind, form_rows, Content, content, Record}
 use Rattle.definition.specs.Log.{Log, empty, rows, accept, normalize_hard_state_term}
-use Rattle.definition.specs.Recovery.{lookup, Out, too_many_replicas, judged, settled, admitted, visit, State, fresh_state, sound_state, scan, routed, guarded, unsound_state, non_increasing_wal_lsn, observe_state, normalized, normalized_state, finish_state, is_accepted, Recovery, fresh, answers, finish, state_answers, state_after}
+use Rattle.definition.specs.Recovery.{lookup, Out, too_many_replicas, judged, settled, admitted, visit, State, fresh_state, sound_state, scan, route_by, routed, guarded, unsound_state, non_increasing_wal_lsn, observe_state, normalized, normalized_state, finish_state, is_accepted, Recovery, fresh, answers, finish, state_answers, state_after}
 use Rattle.definition.specs.Two.{replicas_left}
 use Rattle.definition.specs.Healthy.{AcceptedRecord, EachReplica}
 use Rattle.definition.proofs.Laws.{none_some, Clear, clear, clear_l}
@@ -86,7 +86,7 @@ module _ (all : List Record) (P : Identity → Log ℕ → Type 0) where
 
     routed_carried : (s : State) (lsn : ℕ) (x : Content) → (is_accepted (routed s lsn x).answer ≡ true → AcceptedIn x lsn) → All s
         → All (routed s lsn x).next
-    unfolding routed scan visit
+    unfolding route_by routed scan visit
     routed_carried s lsn None a h i = h i
     routed_carried s lsn (Some (j, k)) a h i = rw lookup_keep (go (same i j) refl)
       where

@@ -4,6 +4,7 @@ pub mod Alike
 pub mod Order
 pub mod Local
 pub mod Never
+pub mod Routing
 pub mod Reach
 pub mod Places
 pub mod SoundLog

@@ -12,9 +12,8 @@ use Rattle.std.specs.Prelude.{Option, None, Some, unwrap_or}
 use Rattle.definition.specs.Table.{◌<?◌, ◌≤?◌, first_of, is_some, every, u64_max}
 use Rattle.definition.specs.Records.{Identity, same, Kind, form_rows, Content, content, Record}
 use Rattle.definition.specs.Log.{Log, empty, rows, answer_to, accept}
-use Rattle.definition.specs.Recovery.{lookup, put, keep, Out, out, too_many_replicas, judged, settled, admitted, visit, State, scan, routed, observe_state, is_accepted, state_answers, state_after, replica_of}
+use Rattle.definition.specs.Recovery.{lookup, put, keep, Out, out, too_many_replicas, judged, settled, admitted, visit, State, scan, route_by, routed, observe_state, all_accepted, is_accepted, state_answers, state_after, replica_of}
 use Rattle.definition.specs.Two.{Above, Rising, fits}
-use Rattle.definition.specs.ReadBack.{all_accepted}
 use Rattle.definition.proofs.Laws.{and_l, and_r, and_i, Clear, clear_i, unclear}
 use Rattle.definition.proofs.Order.{same_self, lookup_put}
 use Rattle.definition.proofs.Never.{answer_to_accepted}
@@ -60,7 +59,7 @@ module _ (s : State) (i : Identity) (k : Kind) (t : ℕ) (f : Clear (form_rows i
   takes = rw (let_through, unclear (rows i k (replica_of i s)) q)
 
   routes_to : routed s t (Some (i, k)) ≡ out (answer_to k (replica_of i s)) (scan s t (put i (accept k t (replica_of i s)) s.replicas))
-  unfolding routed keep
+  unfolding route_by routed keep
   routes_to = rw takes
 
 -- What observing one such record does.

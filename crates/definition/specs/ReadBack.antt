@@ -4,13 +4,10 @@
 use Rattle.std.specs.Prelude.{ℕ, ◌+◌, ◌≤◌, ◌≡◌, ◌⊎◌, Bool, true, false, ◌||◌, List, map, length, take, Some, Ok}
 use Rattle.definition.specs.Table.{◌<?◌, every, if_some, is_some, u64_max}
 use Rattle.definition.specs.Records.{Identity, same, content, Record}
-use Rattle.definition.specs.Log.{Entry, Log, Answer}
-use Rattle.definition.specs.Recovery.{lookup, State, replica_of, is_accepted, Recovery, fresh, sound, observed, answers, finish}
+use Rattle.definition.specs.Log.{Entry, Log}
+use Rattle.definition.specs.Recovery.{lookup, State, replica_of, all_accepted, Recovery, fresh, sound, observed, answers, finish}
 use Rattle.definition.specs.Batch.{Batch, Preview, prepare}
 use Rattle.definition.specs.Two.{Rising, fits, map_entry}
-
-abbrev pub all_accepted : List Answer → Bool
-all_accepted l = every is_accepted l
 
 -- The batch has a hard state whose commit is below the view's.
 abbrev pub commits_less : Batch → Log ℕ → Bool

@@ -3,8 +3,8 @@
 use Rattle.std.specs.Prelude.{ℕ, ◌+◌, Bool, true, false, ◌&&◌, not, List, [], ◌∷◌, ◌++◌, length, replicate, take, drop, T, if◌then◌else◌, None, Some, Result, Ok, Err}
 use Rattle.definition.specs.Table.{◌=?◌, every, u64_max, same_bytes}
 use Rattle.definition.specs.Records.{Payload, normal, configuration, addLearner, inside, entry, pointer, Record, form_rows}
-use Rattle.definition.specs.Log.{Answer, appended, kept, finished, refused, empty, base, count, snapshot_boundary, last_index, last, place, at, is_held, predecessor_term, same_term, same_content, hard_state_successor_rows, snapshot_successor_rows, replay_rows, install_rows, rows, answer_to, placed, with_entry, with_hard_state, beyond, raised_by, with_pointer, accept, largest_term, maximum_observed_term, normalized_to, normalized_hard_state, with_hard, normalize_hard_state_term}
-use Rattle.definition.specs.Recovery.{held, State, Recovery, fresh_state, fresh, lookup, put, keep, ascending, judged, settled, admitted, visit, log_clauses, kept_lsns, held_clauses, state_clauses, sound_state, pad_to, block, layout, sound_store, sound, scan, routed, guarded, observe_state, normalized, normalized_state, finish_state, stored, with_store, observe, finish, answers, observe_until_refused, ask, place_of, replica_of}
+use Rattle.definition.specs.Log.{Answer, appended, pointer_kept, finished, refused, empty, base, count, snapshot_boundary, last_index, last, place, at, is_held, predecessor_term, same_term, same_content, hard_state_successor_rows, snapshot_successor_rows, replay_rows, install_rows, rows, answer_to, placed, with_entry, with_hard_state, beyond, raised_by, with_pointer, accept, largest_term, maximum_observed_term, normalized_to, normalized_hard_state, with_hard, normalize_hard_state_term}
+use Rattle.definition.specs.Recovery.{held, State, Recovery, fresh_state, fresh, lookup, put, keep, ascending, judged, settled, admitted, visit, log_clauses, kept_lsns, held_clauses, state_clauses, sound_state, pad_to, block, layout, sound_store, sound, scan, route_by, routed, guarded, observe_state, normalized, normalized_state, finish_state, stored, with_store, observe, finish, answers, observe_until_refused, ask, place_of, replica_of}
 use Rattle.definition.specs.Batch.{Batch, batch_rows, batch_pointer_rows, batch_entry_rows, batch_hard_state_rows, concluded, hardened, extended, pointed, prepare_on, prepare, Shown, nothing, of_log, of_batch, store_place, shown_in, previewed_at}
 use Rattle.definition.specs.Cases.Samples.{of, id, byte, log_entry, hard_of, snapshot_at, E, F, up_to, k_e, k_ep, log_of, plain_log, no_log, state_of, only, same_option, same_number, same_list, same_state, same_answer, replaced}
 
@@ -59,7 +59,7 @@ storing =
     -- a replacement clears what it cuts
     ∷ on_store two store_of_two (of (id 1 1) 5 (entry 1 (log_entry 1 2 (command (7 ∷ []))))) (replaced 3) (writes ((0, 7 ∷ []) ∷ (4096, 4 ∷ []) ∷ []))
     -- a pointer drops, and the rest moves down
-    ∷ on_store two store_of_two (of (id 1 1) 5 (pointer (snapshot_at 2 1))) kept (writes ((0, 3 ∷ []) ∷ (4096, 4 ∷ []) ∷ []))
+    ∷ on_store two store_of_two (of (id 1 1) 5 (pointer (snapshot_at 2 1))) (pointer_kept 2) (writes ((0, 3 ∷ []) ∷ (4096, 4 ∷ []) ∷ []))
     -- a new replica between: the blocks after it move up, also where its record is refused
     ∷ on_store two store_of_two (of (id 1 2) 5 (entry 1 (log_entry 2 1 (command (7 ∷ []))))) (refused 28) (writes ((0, 1 ∷ 2 ∷ []) ∷ (128, 3 ∷ []) ∷ (8192, 4 ∷ []) ∷ []))
     -- not sound: the state and the store stay as they were
@@ -78,7 +78,7 @@ unsound =
     ∷ []
 
 each_store : T (every stores storing && every (λ st. not (sound_store (record { state = two; store = st }))) unsound)
-unfolding write writes on_store stays stores command two store_of_two storing unsound form_rows empty base count snapshot_boundary last_index last place at is_held predecessor_term same_term same_content hard_state_successor_rows snapshot_successor_rows replay_rows install_rows rows answer_to placed with_entry with_hard_state beyond raised_by with_pointer accept lookup put keep ascending judged settled admitted visit log_clauses kept_lsns held_clauses state_clauses sound_state scan routed guarded observe_state pad_to block layout sound_store stored with_store observe
+unfolding write writes on_store stays stores command two store_of_two storing unsound form_rows empty base count snapshot_boundary last_index last place at is_held predecessor_term same_term same_content hard_state_successor_rows snapshot_successor_rows replay_rows install_rows rows answer_to placed with_entry with_hard_state beyond raised_by with_pointer accept lookup put keep ascending judged settled admitted visit log_clauses kept_lsns held_clauses state_clauses sound_state scan route_by routed guarded observe_state pad_to block layout sound_store stored with_store observe
 each_store = tt
 
 -- Finishing, a chunk until its first refusal, and the readers, over a fresh recovery and over a store that is not sound.
@@ -121,7 +121,7 @@ whole_calls =
     ∷ []
 
 each_whole_call : T (every (λ b. b) whole_calls)
-unfolding write writes short seven is_refusal reads whole_calls fresh fresh_state form_rows empty base count snapshot_boundary last_index last place at is_held predecessor_term same_term same_content hard_state_successor_rows snapshot_successor_rows replay_rows install_rows rows answer_to placed with_entry with_hard_state beyond raised_by with_pointer accept lookup put keep ascending judged settled admitted visit log_clauses kept_lsns held_clauses state_clauses sound_state sound scan routed guarded observe_state pad_to block layout sound_store stored with_store observe largest_term maximum_observed_term normalized_to normalized_hard_state with_hard normalize_hard_state_term normalized normalized_state finish_state finish answers observe_until_refused ask
+unfolding write writes short seven is_refusal reads whole_calls fresh fresh_state form_rows empty base count snapshot_boundary last_index last place at is_held predecessor_term same_term same_content hard_state_successor_rows snapshot_successor_rows replay_rows install_rows rows answer_to placed with_entry with_hard_state beyond raised_by with_pointer accept lookup put keep ascending judged settled admitted visit log_clauses kept_lsns held_clauses state_clauses sound_state sound scan route_by routed guarded observe_state pad_to block layout sound_store stored with_store observe largest_term maximum_observed_term normalized_to normalized_hard_state with_hard normalize_hard_state_term normalized normalized_state finish_state finish answers observe_until_refused ask
 each_whole_call = tt
 
 -- A batch over a state with its store: 1 before all others, an identity not held while 8 are, the command shown.

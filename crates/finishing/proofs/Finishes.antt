@@ -18,7 +18,7 @@ use Rattle.soundness.specs.Sound.{sound_test, Limits}
 use Rattle.finishing.specs.Finishes.{finished_of, finished_done, unsound_done, Finishes}
 use Rattle.storage.proofs.Finish.{finish_none, finish_one, finish_next}
 use Rattle.soundness.proofs.Sound.{test_linked, test_state, test_sound}
-use Rattle.routing.proofs.Observe.{finished_is, finished_test}
+use Rattle.finishing.proofs.Sound.{finished_is, finished_test}
 
 -- One more replica is finished.
 pub finish_turn : (s t : RecoveredRaftStorage) (j m : ℕ) (h : Header) → j < 8 → t ≡ finished_to j s → m ≡ maximum_term (head_at t j) (entries_in t j) → h ≡ finished (head_at t j) m

@@ -13,20 +13,18 @@ use view::Header;
 // A place is opened at p for a replica that is not held: the others from p on move up.
 #[tactic(auto, using(crate::proofs::Written::put_before, store::proofs::Part::pasted))]
 pub fn open_place(
-    state: RecoveredRaftStorage,
+    t: &mut RecoveredRaftStorage,
     store: &mut [u8],
     p: usize,
     identity: RaftReplicaIdentity,
-) -> RecoveredRaftStorage
-    requires { Opens state store.old p }
-    ensures { (result ≡ opened state p (empty_header identity)) × (store.new ≡ opened_store store.old p state.held) }
+)
+    requires { Opens t.old store.old p }
+    ensures { (t.new ≡ opened t.old p (empty_header identity)) × (store.new ≡ opened_store store.old p t.old.held) }
 {
-    let held = state.held;
+    let held = t.held;
     store::open_block(store, p, held);
-    let mut t = state;
     t.heads.copy_within(p..held, p + 1);
     t.entries.copy_within(64 * p..64 * held, 64 * (p + 1));
     t.heads[p] = Header::new(identity);
     t.held = held + 1;
-    t
 }

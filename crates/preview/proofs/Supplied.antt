@@ -12,6 +12,7 @@ use Rattle.std.specs.Prelude.{if◌then◌else◌, Option, None, Some, unwrap_or
 use Rattle.definition.specs.Table.{◌=?◌, ◌≤?◌, Row, ◌when◌, first_of, u64_max}
 use Rattle.definition.specs.Records.{Identity, unfit}
 use Rattle.definition.specs.Log as D
+use Rattle.definition.specs.Recovery.{refusal_of}
 use Rattle.definition.specs.Batch as M
 use Rattle.definition.proofs.Laws.{clear, or_else, first_join, none_some}
 use Rattle.ids.specs.declared.Lsn.{Lsn}
@@ -30,18 +31,19 @@ use Rattle.replay.specs.Plan.{look_of, existing_in, prior_in, Plan, entry_plan}
 use Rattle.replay.proofs.Settled.{look_held, passed, same_answer_lem, is_appended, is_replayed, accepted_replayed}
 use Rattle.preview.specs.declared.Preview.{Preview}
 use Rattle.batches.specs.Checks.{entry_form_rows}
-use Rattle.preview.specs.Preview.{spot_in, spot_of, refusal_in, Ran, written_by, plan_at, taken_at, formed_by, entry_ran, Sits}
+use Rattle.preview.specs.Preview.{spot_in, spot_of, Ran, written_by, plan_at, taken_at, formed_by, entry_ran, Sits}
 use Rattle.preview.specs.Extends.{Next}
 use Rattle.batches.proofs.Rows.{entry_rows}
 
 -- An answer of a plan refuses by the row that made it one.
 plan_refusal : (o : Option ℕ) (a : D.Answer) (h : Header) (e : RecoveredRaftLogEntry) (r : RaftLogEntryRecord) (l : Lsn) (cs lent : List ℕ) → refusing a ≡ false
-    → refusal_in (entry_plan (answered o a) h e r l cs lent).answer ≡ o
+    → refusal_of (entry_plan (answered o a) h e r l cs lent).answer ≡ o
 plan_refusal (Some n) a h e r l cs lent z = refl
 plan_refusal None D.counted h e r l cs lent z = refl
 plan_refusal None D.appended h e r l cs lent z = refl
 plan_refusal None D.idempotentReplay h e r l cs lent z = refl
-plan_refusal None D.kept h e r l cs lent z = refl
+plan_refusal None D.hard_state_kept h e r l cs lent z = refl
+plan_refusal None (D.pointer_kept n) h e r l cs lent z = refl
 plan_refusal None D.finished h e r l cs lent z = refl
 plan_refusal None (D.replaced_suffix m) h e r l cs lent z = refl
 plan_refusal None (D.refused n) h e r l cs lent z = absurd (true≢false z)
@@ -108,7 +110,7 @@ module _ (p : Preview) (cs : List ℕ) (s : Sits p cs) (r : RaftLogEntryRecord) 
   abbrev plan : Plan
   plan = plan_at p spot r cs lent
 
-  refusal_is : refusal_in plan.answer ≡ first_of (first ∷ rest)
+  refusal_is : refusal_of plan.answer ≡ first_of (first ∷ rest)
   refusal_is = plan_refusal (first_of (first ∷ rest)) accepted h e r l cs lent (accepted_replayed h old r.index r.term).0
 
   -- the place after the last, of an append
@@ -151,7 +153,8 @@ module _ (p : Preview) (cs : List ℕ) (s : Sits p cs) (r : RaftLogEntryRecord) 
         let w : place_of h r.index ≡ Some spot = place_held (D.replaced_suffix m) refl refl v in
         rw (look_held h r.index spot s.fits.short w) (when_replaced h es cs s.fits s.places s.bytes r lent l fit small old prior tells spot w m v)
     wrote D.counted z y v = absurd (true≢false (sym y))
-    wrote D.kept z y v = absurd (true≢false (sym y))
+    wrote D.hard_state_kept z y v = absurd (true≢false (sym y))
+    wrote (D.pointer_kept n) z y v = absurd (true≢false (sym y))
     wrote D.finished z y v = absurd (true≢false (sym y))
     wrote (D.refused n) z y v = absurd (true≢false z)
 
@@ -166,7 +169,7 @@ module _ (p : Preview) (cs : List ℕ) (s : Sits p cs) (r : RaftLogEntryRecord) 
         let t : answered (first_of (first ∷ rest)) accepted ≡ accepted = ap (λ (o : Option ℕ). answered o accepted) w in
         record { means = wrote accepted a.0 a.1 (past_first first rest accepted accepted a.0 t); lsn = refl }
 
-    taken_next : (o : Option ℕ) → refusal_in plan.answer ≡ o → o ≡ None → NextOf (written_by o p spot plan)
+    taken_next : (o : Option ℕ) → refusal_of plan.answer ≡ o → o ≡ None → NextOf (written_by o p spot plan)
     taken_next (Some n) w z = absurd (none_some (sym z))
     taken_next None w z = planned_next (first_of (first ∷ rest)) refl (sym refusal_is ∙ w)
 
@@ -183,7 +186,7 @@ module _ (p : Preview) (cs : List ℕ) (s : Sits p cs) (r : RaftLogEntryRecord) 
           → Next p cs (log_entry_of r lent) (formed_by o p cs (taken_at p spot r cs lent))
       go (Some n) w z = absurd (none_some (sym z))
       go None w z =
-          taken_next (form_fit w) small (refusal_in plan.answer) refl (sym (written_refuses (refusal_in plan.answer) p spot plan) ∙ z)
+          taken_next (form_fit w) small (refusal_of plan.answer) refl (sym (written_refuses (refusal_of plan.answer) p spot plan) ∙ z)
 
   -- An entry is refused by the definition's rows.
   pub entry_refuses : (i : Identity) (batch : M.Batch) (was : D.Log ℕ) (v : M.Preview) → v.log ≡ view_of p.head p.entries cs → v.lsn ≡ p.lsn
@@ -195,4 +198,4 @@ module _ (p : Preview) (cs : List ℕ) (s : Sits p cs) (r : RaftLogEntryRecord) 
       ∙ first_join (entry_form_rows p.lsn (log_entry_of r lent)) (first ∷ rest)
       ∙ sym
       (formed_refuses (first_of (entry_form_rows p.lsn (log_entry_of r lent))) p cs (taken_at p spot r cs lent)
-      ∙ ap (or_else (first_of (entry_form_rows p.lsn (log_entry_of r lent)))) (written_refuses (refusal_in plan.answer) p spot plan ∙ refusal_is))
+      ∙ ap (or_else (first_of (entry_form_rows p.lsn (log_entry_of r lent)))) (written_refuses (refusal_of plan.answer) p spot plan ∙ refusal_is))

@@ -3,6 +3,7 @@
 use Rattle.std.specs.Prelude.{ℕ, ◌+◌, ◌-◌, ◌≤◌, ◌≡◌, List, [], ◌∷◌, Bool, ◌&&◌, length, get_or, set, if◌then◌else◌, Option, None, Some, Result}
 use Rattle.definition.specs.Table.{◌=?◌, ◌<?◌, ◌≤?◌, first_of, u64_max}
 use Rattle.definition.specs.Log as D
+use Rattle.definition.specs.Recovery.{refusal_of}
 use Rattle.ids.specs.declared.Lsn.{Lsn}
 use Rattle.ids.specs.declared.RaftReplicaIdentity.{RaftReplicaIdentity}
 use Rattle.ids.specs.declared.Refusal.{Refusal}
@@ -20,12 +21,13 @@ use Rattle.preview.specs.declared.Preview.{Preview}
 use Rattle.batches.specs.Checks.{entry_form_rows}
 use Rattle.batches.specs.Meaning.{record_of}
 
--- An entry (25 to 32).
+-- What an entry is answered (25 to 32), and its plan.
+abbrev pub supplied : Header → RecoveredRaftLogEntry → RecoveredRaftLogEntry → RaftLogEntryRecord → List ℕ → List ℕ → D.Answer
+supplied h e b r cs lent =
+    replay_answer h (existing_in (place_of h r.index) e cs r lent) (prior_in (place_of h (r.index - 1)) h.snapshot_term b.term) r.index r.term
+
 abbrev pub supply_plan : Header → RecoveredRaftLogEntry → RecoveredRaftLogEntry → RaftLogEntryRecord → Lsn → List ℕ → List ℕ → Plan
-supply_plan h e b r l cs lent =
-    entry_plan
-    (replay_answer h (existing_in (place_of h r.index) e cs r lent) (prior_in (place_of h (r.index - 1)) h.snapshot_term b.term) r.index r.term)
-    h e r l cs lent
+supply_plan h e b r l cs lent = entry_plan (supplied h e b r cs lent) h e r l cs lent
 
 -- Whether an index is the one of place q.
 abbrev pub holds_at : Header → ℕ → ℕ → Bool
@@ -41,16 +43,6 @@ spot_in (Some q) n = q
 
 abbrev pub spot_of : Header → ℕ → ℕ
 spot_of h x = spot_in (place_of h x) h.len
-
--- What an answer refuses.
-abbrev pub refusal_in : D.Answer → Option ℕ
-refusal_in D.counted = None
-refusal_in D.appended = None
-refusal_in D.idempotentReplay = None
-refusal_in D.kept = None
-refusal_in D.finished = None
-refusal_in (D.replaced_suffix r) = None
-refusal_in (D.refused n) = Some n
 
 -- The refusal that ended it, the preview, and the bytes of its block.
 pub record Ran : Type 0 where
@@ -76,7 +68,7 @@ plan_at p q r cs lent =
     supply_plan p.head (get_or p.entries q no_entry) (get_or p.entries (look_of p.head (r.index - 1)) no_entry) r (record { 0 = p.lsn + 1 }) cs lent
 
 abbrev pub taken_at : Preview → ℕ → RaftLogEntryRecord → List ℕ → List ℕ → Ran
-taken_at p q r cs lent = written_by (refusal_in (plan_at p q r cs lent).answer) p q (plan_at p q r cs lent)
+taken_at p q r cs lent = written_by (refusal_of (plan_at p q r cs lent).answer) p q (plan_at p q r cs lent)
 
 -- An entry: refused for its form (46, 3, 8, 9, 4, 10), else taken (25 to 32).
 abbrev pub formed_by : Option ℕ → Preview → List ℕ → Ran → Ran

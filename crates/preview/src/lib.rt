@@ -2,14 +2,14 @@
 #![tactic(auto)]
 
 ghost use Rattle.std.specs.Prelude.{◌≡◌, ◌<◌, ◌≤◌};
-ghost use Rattle.replay.specs.Plan.{planned, Replayable};
-ghost use Rattle.preview.specs.Preview.{supply_plan, holds_at, within, ran_with, taken_at, extend_over, Reached, Leaves, Sits, Takes};
+ghost use Rattle.replay.specs.Plan.{Replayable};
+ghost use Rattle.view.specs.Decisions.{outcome_of};
+ghost use Rattle.preview.specs.Preview.{supplied, holds_at, within, ran_with, taken_at, extend_over, Reached, Leaves, Sits, Takes};
 
 use batches::{BatchEntry, entry};
 use codec::RaftLogEntryRecord;
 use ids::{Lsn, RaftReplicaIdentity, Refusal};
-use replay::Change;
-use view::{Header, RecoveredRaftLogEntry};
+use view::{Header, RaftLogReplayOutcome, RecoveredRaftLogEntry};
 
 // The log as the entries so far would leave it, and the LSN of the last of them. Entries stand in places as in a state (document 01),
 // as many as the header says; their commands in a block of 4,096 bytes that is lent beside it, so that what fits them together (`Sits`) is
@@ -21,24 +21,21 @@ pub struct Preview {
     pub lsn: u64,
 }
 
-// An entry of a batch (25 to 32): e stands at the place looked at, `prior` at the one of the index before. Its bytes are written to
-// the preview's block.
+// What an entry of a batch is answered (25 to 32): e stands at the place looked at, `prior` at the one of the index before.
 pub fn supply(
     head: Header,
     e: RecoveredRaftLogEntry,
     prior: RecoveredRaftLogEntry,
     r: RaftLogEntryRecord,
-    lsn: Lsn,
-    block: &mut [u8],
+    block: &[u8],
     lent: &[u8],
-) -> Change
-    requires { Replayable head e r block.old lent.now }
-    ensures { planned result block.new ≡ supply_plan head e prior r lsn block.old lent.now }
+) -> Result<RaftLogReplayOutcome, Refusal>
+    requires { Replayable head e r block.now lent.now }
+    ensures { outcome_of result ≡ supplied head e prior r block.now lent.now }
 {
-    let held = replay::existing(head, e, r, &block[..], lent);
+    let held = replay::existing(head, e, r, block, lent);
     let term = replay::prior_term(head, prior, r.index);
-    let outcome = view::decide_replay(head, held, term, r.index, r.term);
-    replay::write_entry(head, e, r, lsn, block, lent, outcome)
+    view::decide_replay(head, held, term, r.index, r.term)
 }
 
 // Whether an index is the one of place q.
@@ -69,12 +66,12 @@ fn take_entry(
     let head = preview.head;
     let e = preview.entries[q];
     let prior = preview.entries[replay::look_before(head, r.index)];
-    let lsn = preview.lsn + 1;
-    let change = supply(head, e, prior, r, Lsn(lsn), block, lent);
-    change.answer?;
-    preview.head = change.head;
-    preview.entries[q] = change.entry;
-    preview.lsn = lsn;
+    let outcome = supply(head, e, prior, r, &block[..], lent)?;
+    let lsn = Lsn(preview.lsn + 1);
+    let len = replay::len_after(head, r.index, outcome);
+    preview.head = head.with_entry(len, lsn);
+    preview.entries[q] = replay::write_entry(head, e, r, lsn, block, lent, outcome);
+    preview.lsn = lsn.0;
     Ok(())
 }
 

@@ -52,7 +52,8 @@ taken_answer (Ok O.Counted) e = refl
 taken_answer (Ok O.Appended) e = refl
 taken_answer (Ok O.IdempotentReplay) e = refl
 taken_answer (Ok (O.ReplacedSuffix r)) e = refl
-taken_answer (Ok O.Kept) e = refl
+taken_answer (Ok O.HardStateKept) e = refl
+taken_answer (Ok (O.PointerKept n)) e = refl
 taken_answer (Err w) e = absurd (true≢false (sym e))
 
 module _ (s : RecoveredRaftStorage) (st : List ℕ) (rs : List WalRecord) (lent : List ℕ) (t : RecoveredRaftStorage) (u : List ℕ) (b : Result Observation Refusal) (i : ℕ) (k : Chunking s st rs lent t u (answer_of b) i) where

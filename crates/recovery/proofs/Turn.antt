@@ -5,7 +5,7 @@ use mathlib.Core.Path.{◌≡◌, refl, sym, ap, subst, ◌∙◌}
 use mathlib.Core.Bool.{true, false}
 use Rattle.definition.specs.Records.{unfit, form_rows}
 use Rattle.definition.specs.Log as D
-use Rattle.replay.specs.Plan.{answer_of, index_of, look_of, Plan, planned, as_it_was, plan_of, Holds, Settleable}
+use Rattle.replay.specs.Plan.{index_of, look_of, Plan, as_it_was, plan_of, Holds, Settleable}
 use Rattle.storage.specs.Model.{no_header, head_at, bytes_in, with_head, changed_store}
 use Rattle.routing.specs.Observe.{Stepped, moved_entries, written, plan_at}
 use Rattle.routing.proofs.Stepped.{Drops, plan_drops}
@@ -35,7 +35,6 @@ use Rattle.view.specs.declared.RecoveredRaftLogEntry.{RecoveredRaftLogEntry}
 use Rattle.view.specs.Meaning.{no_entry, size_of}
 use Rattle.view.specs.Readers.{place_of}
 use Rattle.view.proofs.Readers.{Held, held_at_lem}
-use Rattle.replay.specs.declared.Change.{Change}
 use Rattle.replay.proofs.Settled.{look_held}
 use Rattle.storage.specs.declared.RecoveredRaftStorage.{RecoveredRaftStorage}
 use Rattle.storage.specs.Meaning.{Linked}
@@ -130,17 +129,18 @@ module _ (t : RecoveredRaftStorage) (u : List ℕ) (p : ℕ) (k : RaftWalRecord)
         only_head w lt (D.refused m) h pl
         ∙ λ j. record { answer = D.refused m; state = record { heads = set_self t.heads p no_header j; entries = t.entries; held = t.held; scan = t.scan }; store = u }
 
-    module _ (d : Change) (ys : List ℕ) (ed : planned d ys ≡ read_plan) (ly : length ys ≡ length (take (4096 * p + 4096 - 4096 * p) (drop (4096 * p) u))) (w : Linked t u) (lt : p < t.held) where
-      whole : length ys ≡ 4096
+    -- A plan that the code has written: its header, its entry, and its bytes in the block.
+    module _ (d : Plan) (ed : d ≡ read_plan) (ly : length d.bytes ≡ length (take (4096 * p + 4096 - 4096 * p) (drop (4096 * p) u))) (w : Linked t u) (lt : p < t.held) where
+      whole : length d.bytes ≡ 4096
       whole = ly ∙ ap length (block_is u p) ∙ length_part (4096 * p) 4096 u (omega (arith, w, lt))
 
       -- the state, with the entries then
       abbrev left : List RecoveredRaftLogEntry → Stepped
       left es =
           record {
-            answer = answer_of d.answer;
+            answer = d.answer;
             state = record { heads = set t.heads p d.head; entries = es; held = t.held; scan = t.scan };
-            store = put_mid (4096 * p) (4096 * p + 4096 - 4096 * p) u ys;
+            store = put_mid (4096 * p) (4096 * p + 4096 - 4096 * p) u d.bytes;
           }
 
       abbrev own : List RecoveredRaftLogEntry
@@ -150,9 +150,9 @@ module _ (t : RecoveredRaftStorage) (u : List ℕ) (p : ℕ) (k : RaftWalRecord)
       settled_with es ee =
           ap by_plan (sym (ed ∙ plan_is))
           ∙ λ j. record {
-            answer = answer_of d.answer;
+            answer = d.answer;
             state = with_head t p d.head (moved j) t.scan;
-            store = sym (P.written u (4096 * p) (4096 * p + 4096 - 4096 * p) ys ys refl (add-sub_cancel_left (4096 * p) 4096 ∙ sym whole)) j;
+            store = sym (P.written u (4096 * p) (4096 * p + 4096 - 4096 * p) d.bytes d.bytes refl (add-sub_cancel_left (4096 * p) 4096 ∙ sym whole)) j;
           }
         where
           moved : moved_entries (set t.entries (64 * p + look_of h x) d.entry) (64 * p) d.dropped d.head.len ≡ es
@@ -164,7 +164,7 @@ module _ (t : RecoveredRaftStorage) (u : List ℕ) (p : ℕ) (k : RaftWalRecord)
       -- What is dropped and what is left keep to the block.
       pub moved_fits : 0 < d.dropped → (64 * p + d.dropped + d.head.len ≤ 512) × (length own ≡ 512)
       moved_fits z =
-          let y : Drops h (planned d ys) = subst (λ (y : Plan). Drops h y) (sym (ed ∙ plan_is)) (plan_drops h (get_or t.entries (64 * p + look_of h x) no_entry) (get_or t.entries (64 * p + look_of h (x - 1)) no_entry) k l (bytes_in u p) lent) in
+          let y : Drops h d = subst (λ (y : Plan). Drops h y) (sym (ed ∙ plan_is)) (plan_drops h (get_or t.entries (64 * p + look_of h x) no_entry) (get_or t.entries (64 * p + look_of h (x - 1)) no_entry) k l (bytes_in u p) lent) in
           (omega (arith, (y z).0, (y z).1, (w.own p lt).short, w, lt), length-set t.entries (64 * p + n) d.entry ∙ w.all)
 
       pub settled_moved : 0 < d.dropped → (k' : ℕ) → k' ≡ d.head.len → (es : List RecoveredRaftLogEntry) → es ≡ paste own (64 * p) (drop (64 * p + d.dropped) own) k' → settled t u p k l lent ≡ left es

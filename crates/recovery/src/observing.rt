@@ -2,6 +2,7 @@
 ghost use Rattle.std.specs.Prelude.{◌≡◌, ◌<◌, List, [], ℕ, length};
 ghost use Rattle.codec.specs.declared.RaftWalRecord.TheVariants.{Entry, HardState, SnapshotPointer};
 ghost use Rattle.ids.specs.Identity.{identity_of};
+ghost use Rattle.ids.specs.Refusal.{result_of};
 ghost use Rattle.storage.specs.Finding.{found_at};
 ghost use Rattle.storage.specs.Meaning.{Linked};
 ghost use Rattle.routing.specs.Admits.{index_in};
@@ -9,12 +10,12 @@ ghost use Rattle.routing.specs.Observe.{stepped};
 ghost use Rattle.routing.proofs.Ready.{Ready};
 ghost use Rattle.recovery.specs.Runs.{Runs, Observing};
 ghost use Rattle.recovery.specs.Steps.{settled, Settling, placed_by};
-ghost use Rattle.replay.specs.Plan.{answer_of};
+ghost use Rattle.replay.specs.Plan.{answer_of, identity_in};
 
 use codec::{
     RaftHardStateRecord, RaftLogEntryRecord, RaftSnapshotPointerRecord, RaftWalRecord, WalRecord,
 };
-use ids::{Lsn, RaftReplicaIdentity, Refusal};
+use ids::{Lsn, Refusal};
 use replay::Observation;
 use routing::Admission;
 use storage::RecoveredRaftStorage;
@@ -35,20 +36,24 @@ pub struct Observed {
     pub state: RecoveredRaftStorage,
 }
 
-// The place of a replica, opened where it is not held (23, where 8 are).
+// The place of a record's replica. One that is not held is refused where 8 are (23); else the record is tried on an empty replica, and a
+// place is opened, whether it is taken or not.
 fn place_of(
     t: &mut RecoveredRaftStorage,
     store: &mut [u8],
-    identity: RaftReplicaIdentity,
+    kind: RaftWalRecord,
 ) -> Result<usize, Refusal>
     requires { Linked t.old store.old }
-    ensures { record { place = result; state = t.new; store = store.new } ≡ placed_by (found_at t.old (identity_of identity)) t.old store.old identity }
+    ensures { record { place = result_of (λ n. n) result; state = t.new; store = store.new } ≡ placed_by (found_at t.old (identity_of (identity_in kind))) t.old store.old kind }
 {
+    let identity = replay::owner(kind);
     match t.find(identity) {
         Ok(p) => Ok(p),
         Err(_) if 8 <= t.held => Err(Refusal::TooManyReplicas),
         Err(p) => {
-            *t = placing::open_place(*t, store, p, identity);
+            let tried = replay::on_empty(kind);
+            placing::open_place(t, store, p, identity);
+            tried?;
             Ok(p)
         }
     }
@@ -73,19 +78,11 @@ fn observe_entry(
     let b = t.entries[before];
     let at = 4096 * p;
     let outcome = replay::decide(head, e, b, r, &store[at..at + 4096], lent)?;
-    let len = replay::len_after(head, r.index, Ok(outcome));
+    let len = replay::len_after(head, r.index, outcome);
     t.heads[p] = head.with_entry(len, lsn);
-    let written = replay::write_entry(
-        head,
-        e,
-        r,
-        lsn,
-        &mut store[at..at + 4096],
-        lent,
-        Ok(outcome),
-    );
-    t.entries[q] = written.entry;
-    written.answer
+    let block = &mut store[at..at + 4096];
+    t.entries[q] = replay::write_entry(head, e, r, lsn, block, lent, outcome);
+    Ok(replay::observation_of(outcome))
 }
 
 // A hard state, at its replica's place: it changes the header alone, whatever the store.
@@ -101,7 +98,7 @@ fn observe_hard_state(
     let head = t.heads[p];
     view::decide_hard_state(head, r.hard_state)?;
     t.heads[p] = head.with_hard_state(r.hard_state, lsn);
-    Ok(Observation::Kept)
+    Ok(Observation::HardStateKept)
 }
 
 // A pointer, at its replica's place: the entries that it covers go.
@@ -118,20 +115,15 @@ fn observe_pointer(
     let head = t.heads[p];
     let q = 64 * p + replay::look(head, pointer.last_included_index);
     let at = 4096 * p;
-    let change = replay::install_snapshot(
-        head,
-        t.entries[q],
-        pointer,
-        lsn,
-        &mut store[at..at + 4096],
-    );
-    t.heads[p] = change.head;
-    t.entries[q] = change.entry;
-    if 0 < change.dropped {
-        let from = 64 * p + change.dropped;
-        t.entries.copy_within(from..from + change.head.len, 64 * p);
+    let block = &mut store[at..at + 4096];
+    let after = replay::install_snapshot(head, t.entries[q], pointer, lsn, block)?;
+    t.heads[p] = after;
+    let dropped = head.len - after.len;
+    if 0 < dropped {
+        let from = 64 * p + dropped;
+        t.entries.copy_within(from..from + after.len, 64 * p);
     }
-    change.answer
+    Ok(Observation::PointerKept(dropped))
 }
 
 // One record, on a state that is sound but for its count of scanned records.
@@ -157,7 +149,7 @@ fn observe_next(
         }
         Admission::Raft(next, kind) => {
             t.scan = next;
-            let p = place_of(t, store, replay::owner(kind))?;
+            let p = place_of(t, store, kind)?;
             match kind {
                 RaftWalRecord::Entry(entry) => observe_entry(t, store, p, entry, r.lsn, lent),
                 RaftWalRecord::HardState(hard) => observe_hard_state(t, p, hard, r.lsn),

@@ -34,6 +34,7 @@ use Rattle.view.specs.Meaning.{no_entry, base_of, id_of, view_of, Means}
 use Rattle.view.specs.Model.{with_hard_state, with_pointer, covered_by, placed_entries, dropped_entries, dropped_bytes, renewed_entry}
 use Rattle.view.specs.Readers.{place_of, at_place}
 use Rattle.view.proofs.Accepted.{refusing, past_first, when_appended, when_replaced, when_renewed, hard_state_means, pointer_means}
+use Rattle.view.proofs.Dropped.{covered_is}
 use Rattle.view.proofs.Readers.{Held, held_at_lem, Appends, appends}
 use Rattle.view.proofs.Rows.{entry_rows, entry_answer_lem, hard_state_rows_lem, pointer_rows_lem}
 use Rattle.view.proofs.Told.{term_at_is, predecessor_is, tells_none, tells_held}
@@ -69,18 +70,20 @@ abbrev pub is_appended : D.Answer → Bool
 is_appended D.counted = false
 is_appended D.appended = true
 is_appended D.idempotentReplay = false
-is_appended D.kept = false
+is_appended D.hard_state_kept = false
 is_appended D.finished = false
 is_appended (D.replaced_suffix r) = false
+is_appended (D.pointer_kept n) = false
 is_appended (D.refused n) = false
 
 abbrev pub is_replayed : D.Answer → Bool
 is_replayed D.counted = false
 is_replayed D.appended = true
 is_replayed D.idempotentReplay = true
-is_replayed D.kept = false
+is_replayed D.hard_state_kept = false
 is_replayed D.finished = false
 is_replayed (D.replaced_suffix r) = true
+is_replayed (D.pointer_kept n) = false
 is_replayed (D.refused n) = true
 
 pub accepted_replayed : (h : Header) (x : Option Existing) (index term : ℕ) → (refusing (accepted_as h x index term) ≡ false) × (is_replayed (accepted_as h x index term) ≡ true)
@@ -239,7 +242,8 @@ module _ (h : Header) (es : List RecoveredRaftLogEntry) (cs : List ℕ) (r : Raf
         same = refl;
       })
   done D.counted p = absurd (true≢false (sym always ∙ ap is_replayed p))
-  done D.kept p = absurd (true≢false (sym always ∙ ap is_replayed p))
+  done D.hard_state_kept p = absurd (true≢false (sym always ∙ ap is_replayed p))
+  done (D.pointer_kept n) p = absurd (true≢false (sym always ∙ ap is_replayed p))
   done D.finished p = absurd (true≢false (sym always ∙ ap is_replayed p))
 
   entry_settled : Done told
@@ -268,7 +272,7 @@ module _ (h : Header) (es : List RecoveredRaftLogEntry) (cs : List ℕ) (l : Lsn
       let w : set es (look_of h 0) e ≡ es = rw k.own (set_self es (look_of h 0) no_entry) in
       let few : h.len ≤ length es = omega (arith, k.places, k.fits.short) in
       by_row h es cs e (look_of h 0) k.own few i (hard_state version (hard_state_of x)) l.0
-      (record { answer = D.kept; head = with_hard_state h x l; entry = e; dropped = 0; bytes = cs }) refl
+      (record { answer = D.hard_state_kept; head = with_hard_state h x l; entry = e; dropped = 0; bytes = cs }) refl
       (rw (w, dropped_none es h.len few) (hard_state_means h es cs k.fits k.places k.bytes x l)) refl
       (first_of (hard_state_rows_of h x)) (ap first_of (hard_state_rows_lem h es cs k.fits i version x))
 
@@ -281,7 +285,7 @@ module _ (h : Header) (es : List RecoveredRaftLogEntry) (cs : List ℕ) (l : Lsn
       let w : set es (look_of h x) e ≡ es = rw k.own (set_self es (look_of h x) no_entry) in
       let few : h.len ≤ length es = omega (arith, k.places, k.fits.short) in
       by_row h es cs e (look_of h x) k.own few i (pointer (pointer_of p)) l.0
-      (record { answer = D.kept; head = with_pointer h p l n; entry = e; dropped = n; bytes = dropped_bytes cs n }) refl
+      (record { answer = D.pointer_kept n; head = with_pointer h p l n; entry = e; dropped = n; bytes = dropped_bytes cs n }) (ap D.pointer_kept (covered_is h es cs p l k.fits k.places k.bytes))
       (rw w (pointer_means h es cs k.fits k.places k.bytes p l n refl)) refl
       (first_of (pointer_rows_of (identity_of p.identity) h p (held_term_in (place_of h x) e.term)))
       (ap first_of (pointer_rows_lem h es cs k.fits p (held_term_in (place_of h x) e.term) (held_term x k) i) ∙ ap (λ (j : Identity). first_of (pointer_rows_of j h p (held_term_in (place_of h x) e.term))) ei)

@@ -26,8 +26,7 @@ use Rattle.view.specs.Meaning.{base_of}
 use Rattle.view.specs.Model.{with_pointer, covered_by, placed_bytes, dropped_bytes}
 use Rattle.view.specs.Readers.{place_of}
 use Rattle.view.proofs.Kept.{kept_cell}
-use Rattle.replay.specs.declared.Observation.TheVariants as O
-use Rattle.replay.specs.Plan.{look_of, held_term_in, planned, pointer_plan, Replayable}
+use Rattle.replay.specs.Plan.{look_of, held_term_in, pointed, pointer_plan, Replayable}
 
 pub look_below : (h : Header) (x : ℕ) → look_of h x < 64
 look_below h x = go (x - base_of h <? 64) refl
@@ -77,5 +76,7 @@ pub plan_installs : (h : Header) (e : RecoveredRaftLogEntry) (p : RaftSnapshotPo
     → t ≡ held_term_in (place_of h p.last_included_index) e.term
     → first_of (pointer_rows_of (identity_of p.identity) h p t) ≡ None
     → k ≡ covered_by h p.last_included_index → h' ≡ with_pointer h p l k → cs' ≡ dropped_bytes cs k
-    → planned (record { answer = Ok O.Kept; head = h'; entry = e; dropped = k }) cs' ≡ pointer_plan h e p l cs
-plan_installs h e p l cs t k h' cs' et row ek eh eb = rw (← et, row, eh, eb, ek)
+    → pointed (Ok h') h e cs' ≡ pointer_plan h e p l cs
+plan_installs h e p l cs t k h' cs' et row ek eh eb =
+    let gone : h.len - (h.len - covered_by h p.last_included_index) ≡ covered_by h p.last_included_index = omega arith in
+    rw (← et, row, eh, eb, ek, gone)

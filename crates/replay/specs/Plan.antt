@@ -5,6 +5,7 @@ use Rattle.std.specs.Prelude.{◌≡◌, false, List, ℕ, ◌+◌, ◌-◌, ◌
 use Rattle.definition.specs.Table.{◌<?◌, first_of}
 use Rattle.definition.specs.Records.{unfit}
 use Rattle.definition.specs.Log as D
+use Rattle.definition.specs.Recovery.{refusal_of}
 use Rattle.ids.specs.declared.Lsn.{Lsn}
 use Rattle.ids.specs.declared.RaftReplicaIdentity.{RaftReplicaIdentity}
 use Rattle.ids.specs.declared.Refusal.{Refusal}
@@ -19,14 +20,14 @@ use Rattle.codec.specs.Records.{payload_of}
 use Rattle.view.specs.declared.Existing.{Existing}
 use Rattle.view.specs.declared.Header.{Header}
 use Rattle.view.specs.declared.RecoveredRaftLogEntry.{RecoveredRaftLogEntry}
-use Rattle.view.specs.Decisions.{entry_answer, hard_state_rows_of, pointer_rows_of}
+use Rattle.view.specs.declared.RaftLogReplayOutcome.{RaftLogReplayOutcome}
+use Rattle.view.specs.Decisions.{outcome_of, entry_answer, hard_state_rows_of, pointer_rows_of}
 use Rattle.view.specs.Kept.{kept_entry, cell_for, existing_of}
 use Rattle.view.specs.Meaning.{base_of, cell_at, size_of}
-use Rattle.view.specs.Model.{with_entry, with_hard_state, with_pointer, covered_by, renewed_entry, placed_bytes, appended_bytes, dropped_entries, dropped_bytes}
+use Rattle.view.specs.Model.{empty_header, with_entry, with_hard_state, with_pointer, covered_by, renewed_entry, placed_bytes, appended_bytes, dropped_entries, dropped_bytes}
 use Rattle.view.specs.Readers.{place_of}
 use Rattle.replay.specs.declared.Observation.{Observation}
 use Rattle.replay.specs.declared.Observation.TheVariants as O
-use Rattle.replay.specs.declared.Change.{Change}
 
 -- What an answer means.
 abbrev pub answer_of : Result Observation Refusal → D.Answer
@@ -34,7 +35,8 @@ answer_of (Ok O.Counted) = D.counted
 answer_of (Ok O.Appended) = D.appended
 answer_of (Ok O.IdempotentReplay) = D.idempotentReplay
 answer_of (Ok (O.ReplacedSuffix r)) = D.replaced_suffix (record { removed_entries = r.removed_entries })
-answer_of (Ok O.Kept) = D.kept
+answer_of (Ok O.HardStateKept) = D.hard_state_kept
+answer_of (Ok (O.PointerKept n)) = D.pointer_kept n
 answer_of (Err why) = D.refused (number_of why)
 
 -- Whose record it is.
@@ -75,14 +77,7 @@ pub record Plan : Type 0 where
   pub dropped : ℕ
   pub bytes : List ℕ
 
--- A change of the code, with the block that it leaves.
-abbrev pub planned : Change → List ℕ → Plan
-planned d cs = record { answer = answer_of d.answer; head = d.head; entry = d.entry; dropped = d.dropped; bytes = cs }
-
--- Of a refused record, in the code's terms.
-abbrev pub refused : Refusal → Header → RecoveredRaftLogEntry → Change
-refused why h e = record { answer = Err why; head = h; entry = e; dropped = 0 }
-
+-- A record that is refused.
 abbrev pub as_it_was : D.Answer → Header → RecoveredRaftLogEntry → List ℕ → Plan
 as_it_was a h e cs = record { answer = a; head = h; entry = e; dropped = 0; bytes = cs }
 
@@ -107,7 +102,8 @@ entry_plan (D.replaced_suffix m) h e r l cs lent =
       bytes = placed_bytes cs (look_of h r.index) (cell_for r.payload lent) (63 - look_of h r.index);
     }
 entry_plan D.counted h e r l cs lent = as_it_was D.counted h e cs
-entry_plan D.kept h e r l cs lent = as_it_was D.kept h e cs
+entry_plan D.hard_state_kept h e r l cs lent = as_it_was D.hard_state_kept h e cs
+entry_plan (D.pointer_kept n) h e r l cs lent = as_it_was (D.pointer_kept n) h e cs
 entry_plan D.finished h e r l cs lent = as_it_was D.finished h e cs
 entry_plan (D.refused n) h e r l cs lent = as_it_was (D.refused n) h e cs
 
@@ -122,9 +118,15 @@ len_after D.appended h x = look_of h x + 1
 len_after (D.replaced_suffix m) h x = look_of h x + 1
 len_after D.idempotentReplay h x = h.len
 len_after D.counted h x = h.len
-len_after D.kept h x = h.len
+len_after D.hard_state_kept h x = h.len
+len_after (D.pointer_kept n) h x = h.len
 len_after D.finished h x = h.len
 len_after (D.refused n) h x = h.len
+
+-- An entry of a decided outcome, by the entry and the block that the code leaves.
+abbrev pub entry_written : RaftLogReplayOutcome → Header → ℕ → Lsn → RecoveredRaftLogEntry → List ℕ → Plan
+entry_written o h x l e cs =
+    record { answer = outcome_of (Ok o); head = with_entry h (len_after (outcome_of (Ok o)) h x) l; entry = e; dropped = 0; bytes = cs }
 
 abbrev pub replay_plan : Header → RecoveredRaftLogEntry → RecoveredRaftLogEntry → RaftLogEntryRecord → Lsn → List ℕ → List ℕ → Plan
 replay_plan h e b r l cs lent = entry_plan (decided h e b r cs lent) h e r l cs lent
@@ -137,14 +139,25 @@ unless_row None h e cs d = d
 -- A hard state (33 to 38).
 abbrev pub hard_state_plan : Header → RecoveredRaftLogEntry → HardState → Lsn → List ℕ → Plan
 hard_state_plan h e x l cs =
-    unless_row (first_of (hard_state_rows_of h x)) h e cs (record { answer = D.kept; head = with_hard_state h x l; entry = e; dropped = 0; bytes = cs })
+    unless_row (first_of (hard_state_rows_of h x)) h e cs (record { answer = D.hard_state_kept; head = with_hard_state h x l; entry = e; dropped = 0; bytes = cs })
 
 -- A pointer (39 to 42).
 abbrev pub pointer_plan : Header → RecoveredRaftLogEntry → RaftSnapshotPointerRecord → Lsn → List ℕ → Plan
 pointer_plan h e p l cs =
     let k = covered_by h p.last_included_index in
     unless_row (first_of (pointer_rows_of (identity_of p.identity) h p (held_term_in (place_of h p.last_included_index) e.term))) h e cs
-    (record { answer = D.kept; head = with_pointer h p l k; entry = e; dropped = k; bytes = dropped_bytes cs k })
+    (record { answer = D.pointer_kept k; head = with_pointer h p l k; entry = e; dropped = k; bytes = dropped_bytes cs k })
+
+-- A pointer, by the header and the block that the code leaves: as many entries went as the header has fewer.
+abbrev pub pointed : Result Header Refusal → Header → RecoveredRaftLogEntry → List ℕ → Plan
+pointed (Ok h') h e cs = record { answer = D.pointer_kept (h.len - h'.len); head = h'; entry = e; dropped = h.len - h'.len; bytes = cs }
+pointed (Err why) h e cs = as_it_was (D.refused (number_of why)) h e cs
+
+-- What refuses a record at a replica that holds nothing.
+abbrev pub empty_refuses : RaftWalRecord → Option ℕ
+empty_refuses (W.Entry r) = refusal_of (entry_answer (empty_header r.identity) None 0 r.index r.term)
+empty_refuses (W.HardState r) = first_of (hard_state_rows_of (empty_header r.identity) r.hard_state)
+empty_refuses (W.SnapshotPointer p) = first_of (pointer_rows_of (identity_of p.identity) (empty_header p.identity) p None)
 
 abbrev pub plan_of : Header → RecoveredRaftLogEntry → RecoveredRaftLogEntry → RaftWalRecord → Lsn → List ℕ → List ℕ → Plan
 plan_of h e b (W.Entry r) l cs lent = replay_plan h e b r l cs lent

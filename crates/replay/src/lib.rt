@@ -2,34 +2,37 @@
 // replica's block of the store.
 #![tactic(auto)]
 
-ghost use Rattle.std.specs.Prelude.{◌≡◌, ◌-◌, ◌<◌, ◌≤◌, length};
+ghost use Rattle.std.specs.Prelude.{◌≡◌, ◌-◌, ◌<◌, ◌≤◌, length, Ok};
 ghost use Rattle.view.specs.Decisions.{outcome_of};
 ghost use Rattle.view.specs.Model.{renewed_entry};
 ghost use Rattle.view.specs.Readers.{place_of};
-ghost use Rattle.replay.specs.Plan.{identity_in, index_of, look_of, refused, existing_in, prior_in, held_term_in, decided, len_after, planned, entry_plan, pointer_plan, Replayable};
+ghost use Rattle.ids.specs.Refusal.{checked_of};
+ghost use Rattle.replay.specs.Plan.{answer_of, identity_in, index_of, look_of, empty_refuses, existing_in, prior_in, held_term_in, decided, len_after, entry_written, entry_plan, pointed, pointer_plan, Replayable};
 
 use codec::{RaftLogEntryRecord, RaftSnapshotPointerRecord, RaftWalRecord};
 use ids::{Lsn, RaftReplicaIdentity, Refusal};
 use view::{Existing, Header, RaftLogReplayOutcome, RecoveredRaftLogEntry, Removed};
 
-// What a record that is not refused is answered.
+// What a record that is not refused is answered. Of a pointer: how many entries it covered, which went.
 #[derive(Clone, Copy, Debug, PartialEq, Eq)]
 pub enum Observation {
     Counted,
     Appended,
     IdempotentReplay,
     ReplacedSuffix(Removed),
-    Kept,
+    HardStateKept,
+    PointerKept(usize),
 }
 
-// What stands in the replica's places then: the header, the entry at the place that was looked at, and how many entries go
-// from the front.
-#[derive(Clone, Copy, Debug, PartialEq, Eq)]
-pub struct Change {
-    pub answer: Result<Observation, Refusal>,
-    pub head: Header,
-    pub entry: RecoveredRaftLogEntry,
-    pub dropped: usize,
+// What an entry is answered, by what it does.
+pub fn observation_of(outcome: RaftLogReplayOutcome) -> Observation
+    ensures { answer_of (Ok result) ≡ outcome_of (Ok outcome) }
+{
+    match outcome {
+        RaftLogReplayOutcome::Appended => Observation::Appended,
+        RaftLogReplayOutcome::IdempotentReplay => Observation::IdempotentReplay,
+        RaftLogReplayOutcome::ReplacedSuffix(removed) => Observation::ReplacedSuffix(removed),
+    }
 }
 
 // Whose record it is.
@@ -110,19 +113,7 @@ fn renewed(e: RecoveredRaftLogEntry, lsn: Lsn) -> RecoveredRaftLogEntry
     RecoveredRaftLogEntry { lsn, ..e }
 }
 
-// Nothing changes where a record is refused.
-fn refused(why: Refusal, head: Header, e: RecoveredRaftLogEntry) -> Change
-    ensures { result ≡ refused why head e }
-{
-    Change {
-        answer: Err(why),
-        head,
-        entry: e,
-        dropped: 0,
-    }
-}
-
-// An entry that is decided.
+// An entry that is decided: its bytes go to its cell. What is left is the entry that stands at its place then.
 pub fn write_entry(
     head: Header,
     e: RecoveredRaftLogEntry,
@@ -130,39 +121,23 @@ pub fn write_entry(
     lsn: Lsn,
     block: &mut [u8],
     lent: &[u8],
-    outcome: Result<RaftLogReplayOutcome, Refusal>,
-) -> Change
+    outcome: RaftLogReplayOutcome,
+) -> RecoveredRaftLogEntry
     requires { Replayable head e r block.old lent.now }
-    ensures { planned result block.new ≡ entry_plan (outcome_of outcome) head e r lsn block.old lent.now }
+    ensures { entry_written outcome head r.index lsn result block.new ≡ entry_plan (outcome_of (Ok outcome)) head e r lsn block.old lent.now }
 {
     let q = look(head, r.index);
     match outcome {
-        Ok(RaftLogReplayOutcome::Appended) => {
+        RaftLogReplayOutcome::Appended => {
             view::put_payload(block, 64 * q, r.payload, lent);
-            Change {
-                answer: Ok(Observation::Appended),
-                head: head.with_entry(q + 1, lsn),
-                entry: view::kept_entry(r, lsn),
-                dropped: 0,
-            }
+            view::kept_entry(r, lsn)
         }
-        Ok(RaftLogReplayOutcome::IdempotentReplay) => Change {
-            answer: Ok(Observation::IdempotentReplay),
-            head: head.with_entry(head.len, lsn),
-            entry: renewed(e, lsn),
-            dropped: 0,
-        },
-        Ok(RaftLogReplayOutcome::ReplacedSuffix(removed)) => {
+        RaftLogReplayOutcome::IdempotentReplay => renewed(e, lsn),
+        RaftLogReplayOutcome::ReplacedSuffix(_) => {
             view::put_payload(block, 64 * q, r.payload, lent);
             store::keep_cells(block, 0, q + 1);
-            Change {
-                answer: Ok(Observation::ReplacedSuffix(removed)),
-                head: head.with_entry(q + 1, lsn),
-                entry: view::kept_entry(r, lsn),
-                dropped: 0,
-            }
+            view::kept_entry(r, lsn)
         }
-        Err(why) => refused(why, head, e),
     }
 }
 
@@ -184,38 +159,46 @@ pub fn decide(
 }
 
 // How many entries are held after an entry that is decided.
-pub fn len_after(head: Header, index: u64, outcome: Result<RaftLogReplayOutcome, Refusal>) -> usize
-    ensures { result ≡ len_after (outcome_of outcome) head index }
+pub fn len_after(head: Header, index: u64, outcome: RaftLogReplayOutcome) -> usize
+    ensures { result ≡ len_after (outcome_of (Ok outcome)) head index }
 {
     match outcome {
-        Ok(RaftLogReplayOutcome::Appended | RaftLogReplayOutcome::ReplacedSuffix(_)) => {
+        RaftLogReplayOutcome::Appended | RaftLogReplayOutcome::ReplacedSuffix(_) => {
             look(head, index) + 1
         }
-        Ok(RaftLogReplayOutcome::IdempotentReplay) | Err(_) => head.len,
+        RaftLogReplayOutcome::IdempotentReplay => head.len,
     }
 }
 
-// A pointer (39 to 42): e stands at the place of its index. The entries that it covers go.
+// What a replica that holds nothing answers to a record: the same decisions, on its header.
+pub fn on_empty(kind: RaftWalRecord) -> Result<(), Refusal>
+    ensures { checked_of result ≡ empty_refuses kind }
+{
+    let head = Header::new(owner(kind));
+    match kind {
+        RaftWalRecord::Entry(r) => {
+            view::decide_entry(head, None, 0, r.index, r.term)?;
+            Ok(())
+        }
+        RaftWalRecord::HardState(r) => view::decide_hard_state(head, r.hard_state),
+        RaftWalRecord::SnapshotPointer(p) => view::decide_pointer(head, p, None),
+    }
+}
+
+// A pointer (39 to 42): e stands at the place of its index. The cells of the entries that it covers go; the header is what is left.
 pub fn install_snapshot(
     head: Header,
     e: RecoveredRaftLogEntry,
     pointer: RaftSnapshotPointerRecord,
     lsn: Lsn,
     block: &mut [u8],
-) -> Change
+) -> Result<Header, Refusal>
     requires { (length block.old ≡ 4096) × (head.len ≤ 64) }
-    ensures { planned result block.new ≡ pointer_plan head e pointer lsn block.old }
+    ensures { pointed result head e block.new ≡ pointer_plan head e pointer lsn block.old }
 {
     let held = held_term(head, e, pointer.last_included_index);
-    if let Err(why) = view::decide_pointer(head, pointer, held) {
-        return refused(why, head, e);
-    }
+    view::decide_pointer(head, pointer, held)?;
     let k = head.covered_by(pointer.last_included_index);
     store::drop_cells(block, 0, k);
-    Change {
-        answer: Ok(Observation::Kept),
-        head: head.with_pointer(pointer, lsn, k),
-        entry: e,
-        dropped: k,
-    }
+    Ok(head.with_pointer(pointer, lsn, k))
 }

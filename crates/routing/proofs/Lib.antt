@@ -2,5 +2,4 @@ pub mod Observe
 pub mod Ready
 pub mod Route
 pub mod Routed
-pub mod Scanned
 pub mod Stepped

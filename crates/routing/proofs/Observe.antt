@@ -1,24 +1,18 @@
--- State and store together: what the definition's `observe` and `finish` make of them, and that they stay sound.
+-- State and store together: what the definition's `observe` makes of them.
 -- Assumes nothing.
 use mathlib.Core.Path.{◌≡◌, sym, ap, ◌∙◌}
 use mathlib.Core.Bool.{Bool, true, false}
 use mathlib.Core.List.{List}
-use Prim.Native.Nat.{ℕ, ◌+◌, ◌<◌}
-use Rattle.definition.specs.Table.{◌≤?◌, if_some, u64_max}
+use Prim.Native.Nat.{ℕ}
+use Rattle.definition.specs.Table.{◌≤?◌, if_some}
 use Rattle.definition.specs.Records.{Record, content}
-use Rattle.definition.specs.Log.{Answer, refused, finished}
-use Rattle.definition.specs.Recovery.{Out, out, State, sound_state, Recovery, routed, guarded, observe_state, observe, finish}
-use Rattle.definition.specs.Two.{fits}
-use Rattle.definition.proofs.Sound.{sound_step, finish_is, sound_finish}
-use Rattle.definition.proofs.Store.{laid, observe_laid, finish_laid}
+use Rattle.definition.specs.Log.{Answer, refused}
+use Rattle.definition.specs.Recovery.{Out, out, State, sound_state, Recovery, routed, guarded, observe_state, observe}
+use Rattle.definition.proofs.Store.{laid, observe_laid}
 use Rattle.view.specs.Meaning.{lsn_of}
 use Rattle.storage.specs.declared.RecoveredRaftStorage.{RecoveredRaftStorage}
-use Rattle.storage.specs.Model.{finished_storage}
 use Rattle.storage.specs.Meaning.{meaning, recovery_of, Linked, Observes}
-use Rattle.soundness.specs.Sound.{sound_test}
 use Rattle.storage.proofs.Store.{recovery_laid}
-use Rattle.storage.proofs.Finish.{finish_means, finish_linked}
-use Rattle.soundness.proofs.Sound.{linked_test}
 
 state_stale : (t : State) (r : Record) → sound_state t ≡ true → if_some (λ x. r.lsn ≤? x) t.last_scanned_lsn ≡ true → observe_state t r ≡ out (refused 2) t
 unfolding observe_state guarded
@@ -52,25 +46,3 @@ module _ (s : RecoveredRaftStorage) (st : List ℕ) (k : Linked s st) (e : sound
 
       pub observed_is : observe (recovery_of s st) r ≡ out a (recovery_of s' st')
       observed_is = by_state (out a (meaning s' st')) next_is ∙ ap (λ (w : Recovery). out a w) (sym (recovery_laid s' st' o.linked))
-
-      pub observed_state : s.scan.scanned_records + 1 < u64_max → fits r ≡ true → sound_state (meaning s' st') ≡ true
-      unfolding meaning
-      observed_state n m = ap (λ (x : Out State). sound_state x.next) (sym next_is) ∙ sound_step (meaning s st) r e n m
-
-      pub observed_test : s.scan.scanned_records + 1 < u64_max → fits r ≡ true → sound_test s' st' ≡ true
-      observed_test n m = linked_test s' st' o.linked (observed_state n m)
-
-  -- Finishing.
-  pub finished_is : finish (recovery_of s st) ≡ out finished (recovery_of (finished_storage s) st)
-  finished_is =
-      ap finish (recovery_laid s st k) ∙ finish_laid (meaning s st)
-      ∙ ap (λ (x : Out State). out x.answer (laid x.next)) (finish_is (meaning s st) e)
-      ∙ ap (λ (t : State). out finished (laid t)) (sym (finish_means s st k))
-      ∙ ap (λ (w : Recovery). out finished w) (sym (recovery_laid (finished_storage s) st (finish_linked s st k)))
-
-  pub finished_state : sound_state (meaning (finished_storage s) st) ≡ true
-  finished_state =
-      ap sound_state (finish_means s st k) ∙ ap (λ (x : Out State). sound_state x.next) (sym (finish_is (meaning s st) e)) ∙ sound_finish (meaning s st) e
-
-  pub finished_test : sound_test (finished_storage s) st ≡ true
-  finished_test = linked_test (finished_storage s) st (finish_linked s st k) finished_state

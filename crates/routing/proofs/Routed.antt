@@ -11,7 +11,7 @@ use lib.ListN.{length}
 use Rattle.definition.specs.Table.{◌≤?◌, Row, first_of}
 use Rattle.definition.specs.Records.{Identity, Kind, Content, same, form_rows}
 use Rattle.definition.specs.Log.{Log, Answer, counted, refused, empty, rows, answer_to, accept}
-use Rattle.definition.specs.Recovery.{Held, held, lookup, put, keep, ascending, Out, out, too_many_replicas, judged, settled, admitted, visit, State, scan, routed}
+use Rattle.definition.specs.Recovery.{Held, held, lookup, put, keep, ascending, Out, out, too_many_replicas, judged, settled, admitted, visit, State, scan, route_by, routed}
 use Rattle.definition.proofs.Laws.{first_join}
 use Rattle.ids.specs.declared.Lsn.{Lsn}
 use Rattle.ids.specs.declared.RaftReplicaIdentity.{RaftReplicaIdentity}
@@ -30,7 +30,7 @@ use Rattle.storage.proofs.Place.{scanned_is, replicas_length, held_found, held_s
 module _ (s : State) (lsn : ℕ) (i : Identity) (k : Kind) where
   -- 3 to 22
   pub form_refused : (n : ℕ) → first_of (form_rows i k) ≡ Some n → routed s lsn (Some (i, k)) ≡ out (refused n) (scan s lsn s.replicas)
-  unfolding routed visit admitted keep
+  unfolding route_by routed visit admitted keep
   form_refused n e =
       let r : List Row = too_many_replicas (8 ≤? length s.replicas) (lookup i s.replicas) ∷ [] in
       rw (first_join (form_rows i k) r, e)
@@ -38,7 +38,7 @@ module _ (s : State) (lsn : ℕ) (i : Identity) (k : Kind) where
   module _ (form : first_of (form_rows i k) ≡ None) where
     -- 23
     pub full_refused : lookup i s.replicas ≡ None → 8 ≤ length s.replicas → routed s lsn (Some (i, k)) ≡ out (refused 23) (scan s lsn s.replicas)
-    unfolding routed visit admitted keep
+    unfolding route_by routed visit admitted keep
     full_refused a l =
         rw (a, le-leb 8 (length s.replicas) l, first_join (form_rows i k) (too_many_replicas {L = Log ℕ} true None ∷ []), form)
 
@@ -47,12 +47,12 @@ module _ (s : State) (lsn : ℕ) (i : Identity) (k : Kind) where
     settles log = out (settled i k lsn log).answer (scan s lsn (keep i (settled i k lsn log).next s.replicas))
 
     held_routed : (log : Log ℕ) → lookup i s.replicas ≡ Some log → routed s lsn (Some (i, k)) ≡ settles log
-    unfolding routed visit admitted
+    unfolding route_by routed visit admitted
     held_routed log a =
         rw (a, first_join (form_rows i k) (too_many_replicas (8 ≤? length s.replicas) (Some log) ∷ []), form, and-false (8 ≤? length s.replicas))
 
     new_routed : lookup i s.replicas ≡ None → length s.replicas < 8 → routed s lsn (Some (i, k)) ≡ settles empty
-    unfolding routed visit admitted
+    unfolding route_by routed visit admitted
     new_routed a l =
         rw (a, lt-leb 8 (length s.replicas) l, first_join (form_rows i k) (too_many_replicas {L = Log ℕ} false None ∷ []), form)
 
@@ -79,7 +79,7 @@ module _ (s : RecoveredRaftStorage) (st : List ℕ) (l : Lsn) (k : Linked s st) 
 
   -- A record of no Raft kind.
   pub foreign_observes : Observes s st l.0 None counted scanned st
-  unfolding routed
+  unfolding route_by routed
   foreign_observes = only_scanned_lem None counted refl
 
   module _ (i : Identity) (b : Kind) where

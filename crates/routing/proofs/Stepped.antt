@@ -63,7 +63,8 @@ entry_drops : (a : D.Answer) (h : Header) (e : RecoveredRaftLogEntry) (r : RaftL
 entry_drops D.counted h e r l cs lent x = absurd (omega arith)
 entry_drops D.appended h e r l cs lent x = absurd (omega arith)
 entry_drops D.idempotentReplay h e r l cs lent x = absurd (omega arith)
-entry_drops D.kept h e r l cs lent x = absurd (omega arith)
+entry_drops D.hard_state_kept h e r l cs lent x = absurd (omega arith)
+entry_drops (D.pointer_kept n) h e r l cs lent x = absurd (omega arith)
 entry_drops D.finished h e r l cs lent x = absurd (omega arith)
 entry_drops (D.replaced_suffix m) h e r l cs lent x = absurd (omega arith)
 entry_drops (D.refused n) h e r l cs lent x = absurd (omega arith)
@@ -78,26 +79,12 @@ plan_drops h e b (W.Entry r) l cs lent =
     (entry_answer h (existing_in (place_of h r.index) e cs r lent) (prior_in (place_of h (r.index - 1)) h.snapshot_term b.term) r.index r.term)
     h e r l cs lent
 plan_drops h e b (W.HardState r) l cs lent =
-    let d : Plan = record { answer = D.kept; head = with_hard_state h r.hard_state l; entry = e; dropped = 0; bytes = cs } in
+    let d : Plan = record { answer = D.hard_state_kept; head = with_hard_state h r.hard_state l; entry = e; dropped = 0; bytes = cs } in
     unless_drops (first_of (hard_state_rows_of h r.hard_state)) h e cs d (λ x. absurd (omega arith))
 plan_drops h e b (W.SnapshotPointer p) l cs lent =
     let n : ℕ = covered_by h p.last_included_index in
-    let d : Plan = record { answer = D.kept; head = with_pointer h p l n; entry = e; dropped = n; bytes = dropped_bytes cs n } in
+    let d : Plan = record { answer = D.pointer_kept n; head = with_pointer h p l n; entry = e; dropped = n; bytes = dropped_bytes cs n } in
     unless_drops (first_of (pointer_rows_of (identity_of p.identity) h p (held_term_in (place_of h p.last_included_index) e.term))) h e cs d (λ x. (omega arith, refl))
-
--- A plan keeps the identity of its header.
-entry_keeps : (a : D.Answer) (h : Header) (e : RecoveredRaftLogEntry) (r : RaftLogEntryRecord) (l : Lsn) (cs lent : List ℕ) → (entry_plan a h e r l cs lent).head.identity ≡ h.identity
-entry_keeps D.counted h e r l cs lent = refl
-entry_keeps D.appended h e r l cs lent = refl
-entry_keeps D.idempotentReplay h e r l cs lent = refl
-entry_keeps D.kept h e r l cs lent = refl
-entry_keeps D.finished h e r l cs lent = refl
-entry_keeps (D.replaced_suffix m) h e r l cs lent = refl
-entry_keeps (D.refused n) h e r l cs lent = refl
-
-unless_keeps : (o : Option ℕ) (h : Header) (e : RecoveredRaftLogEntry) (cs : List ℕ) (d : Plan) → d.head.identity ≡ h.identity → (unless_row o h e cs d).head.identity ≡ h.identity
-unless_keeps (Some n) h e cs d f = refl
-unless_keeps None h e cs d f = f
 
 -- From one block to the state.
 module _ (s : RecoveredRaftStorage) (st : List ℕ) (p : ℕ) (k : Linked s st) (lt : p < s.held) where

@@ -2,7 +2,7 @@
 -- after it.
 -- Assumes nothing.
 use Rattle.std.specs.Prelude.{Option}
-use mathlib.Core.Path.{◌≡◌, refl, sym, ap, ◌∙◌}
+use mathlib.Core.Path.{◌≡◌, refl, ap, ◌∙◌}
 use mathlib.Core.Bool.{Bool, true, ◌&&◌}
 use mathlib.Core.List.{List, [], ◌∷◌}
 use Prim.Native.Nat.{ℕ, zero, suc, ◌+◌, ◌-◌, ◌*◌, ◌<◌, ◌≤◌}
@@ -28,9 +28,6 @@ module _ (last : Option ℕ) where
   abbrev pub entries_left : ℕ → List RecoveredRaftLogEntry → List ℕ → ℕ → Bool
   entries_left n es cs q = entries_ok last (n - q) (drop q es) (drop (64 * q) cs)
 
-  pub entries_begin : (n : ℕ) (es : List RecoveredRaftLogEntry) (cs : List ℕ) → entries_ok last n es cs ≡ entries_left n es cs 0
-  entries_begin n es cs = let e : n - 0 ≡ n = omega arith in sym (ap (λ (m : ℕ). entries_ok last m es cs) e)
-
   pub entries_step : (n : ℕ) (es : List RecoveredRaftLogEntry) (cs : List ℕ) (q : ℕ) → q < n
       → entries_left n es cs q ≡ (entry_ok last (get_or es q no_entry) (part (64 * q) 64 cs) && entries_left n es cs (q + 1))
   unfolding entries_ok
@@ -48,9 +45,6 @@ module _ (last : Option ℕ) where
   -- What is asked of the replicas from p on, of n.
   abbrev pub replicas_left : ℕ → List Header → List RecoveredRaftLogEntry → List ℕ → ℕ → Bool
   replicas_left n hs es st p = replicas_ok last (n - p) (drop p hs) (drop (64 * p) es) (drop (4096 * p) st)
-
-  pub replicas_begin : (n : ℕ) (hs : List Header) (es : List RecoveredRaftLogEntry) (st : List ℕ) → replicas_ok last n hs es st ≡ replicas_left n hs es st 0
-  replicas_begin n hs es st = let e : n - 0 ≡ n = omega arith in sym (ap (λ (m : ℕ). replicas_ok last m hs es st) e)
 
   pub replicas_step : (n : ℕ) (hs : List Header) (es : List RecoveredRaftLogEntry) (st : List ℕ) (p : ℕ) → p < n
       → replicas_left n hs es st p ≡ (replica_ok last (get_or hs p no_header) (part (64 * p) 64 es) (part (4096 * p) 4096 st) && replicas_left n hs es st (p + 1))

@@ -28,7 +28,7 @@ fn word(answer: &Result<Observation, Refusal>) -> &'static str {
         Ok(Observation::Appended) => "appended",
         Ok(Observation::IdempotentReplay) => "repeated",
         Ok(Observation::ReplacedSuffix(_)) => "replaced",
-        Ok(Observation::Kept) | Err(_) => "kept",
+        Ok(Observation::HardStateKept | Observation::PointerKept(_)) | Err(_) => "kept",
     }
 }
 

@@ -28,22 +28,10 @@ use Rattle.readers.proofs.Readings.{cell_in_lem, minimum_is}
 use Rattle.tables.specs.Model.{lines_to, index_at, len_of, held_in}
 use Rattle.tables.proofs.Law.{lines_first, lines_same, joined_tab}
 use Rattle.replica_line.specs.Lines.{line_of, replica_line}
-use Rattle.state_tables.specs.Lines.{kept_word, step_line, pointer_line, entry_line, entry_lines, replica_text, state_text}
+use Rattle.state_tables.specs.Lines.{pointer_line, entry_line, entry_lines, replica_text, state_text}
 use Rattle.replica_line.specs.Model.{line_in}
-use Rattle.state_tables.specs.Model.{kept_in, step_in, entry_in, place_in, entries_in, replica_in, scan_in, state_in}
+use Rattle.state_tables.specs.Model.{entry_in, place_in, entries_in, replica_in, scan_in, state_in}
 use Rattle.codec.specs.declared.RaftWalRecord.{RaftWalRecord}
-
--- ---- a record's line
-
-kept_is : (b : Option RaftWalRecord) (lent : List ℕ) → kept_in b ≡ kept_word (content_of (body_of b lent))
-kept_is None lent = refl
-kept_is (Some (W.Entry e)) lent = refl
-kept_is (Some (W.HardState h)) lent = refl
-kept_is (Some (W.SnapshotPointer p)) lent = refl
-
--- What the code writes of a record and its answer is the definition's line of what they mean.
-pub step_is : (r : WalRecord) (a : Result Observation Refusal) (lent : List ℕ) → step_in r.lsn.0 a r.body ≡ step_line r.lsn.0 (answer_of a) (kept_word (content (record_of r lent)))
-step_is r a lent = ap (step_line r.lsn.0 (answer_of a)) (kept_is r.body lent)
 
 -- ---- a replica
 

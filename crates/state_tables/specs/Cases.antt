@@ -6,7 +6,7 @@ use Prim.Native.String.{String, [] as empty, ◌∷◌ as ◌then◌}
 use Rattle.definition.specs.Table.{u64_max, every, same_bytes}
 use Rattle.definition.specs.Records.{normal, configuration, inside, outside, addLearner, promoteLearner, removeReplica, entry, hard_state, pointer, Content, form_rows}
 use Rattle.definition.specs.Log as D
-use Rattle.definition.specs.Log.{Log, counted, appended, idempotentReplay, kept, finished, replaced_suffix, refused}
+use Rattle.definition.specs.Log.{Log, counted, appended, idempotentReplay, hard_state_kept, pointer_kept, finished, replaced_suffix, refused}
 use Rattle.definition.specs.Recovery as C
 use Rattle.definition.specs.Recovery.{held, fresh_state}
 use Rattle.definition.specs.Cases.Samples.{one, id, hard_of, snapshot_at, log_entry, byte, E, Ep, H, P, F, k_e, k_ep, log_of, plain_log, no_log, state_of}
@@ -29,36 +29,25 @@ is l s = same_bytes l (unlines s)
 
 -- ---- a record's line: each answer's word
 
-said : ℕ → D.Answer → Content → String → Bool
-said lsn a c s = is (step_line lsn a (kept_word c)) (s ∷ [])
-
-an_entry : Content
-an_entry = Some (one, entry 1 (log_entry 1 1 (byte 65)))
-
-a_hard_state : Content
-a_hard_state = Some (one, hard_state 1 (hard_of 1 None 0))
-
-a_pointer : Content
-a_pointer = Some (one, pointer (snapshot_at 1 1))
+said : ℕ → D.Answer → String → Bool
+said lsn a s = is (step_line lsn a) (s ∷ [])
 
 answers : List Bool
 answers =
-    said 0 counted None "0 foreign"
-    ∷ said 5 appended an_entry "5 appended"
-    ∷ said 6 idempotentReplay an_entry "6 repeated"
-    ∷ said 7 (replaced_suffix (record { removed_entries = 64 })) an_entry "7 replaced 64"
-    ∷ said 8 kept a_hard_state "8 hard-state"
-    ∷ said 9 kept a_pointer "9 pointer"
-    ∷ said u64_max (refused 42) a_pointer "18446744073709551615 refused 42"
-    ∷ said 10 (refused 2) None "10 refused 2"
-    -- no answer to a record, and kinds that are never kept
-    ∷ said 11 finished None "11 finished"
-    ∷ said 12 kept None "12 hard-state"
-    ∷ said 13 kept an_entry "13 hard-state"
+    said 0 counted "0 foreign"
+    ∷ said 5 appended "5 appended"
+    ∷ said 6 idempotentReplay "6 repeated"
+    ∷ said 7 (replaced_suffix (record { removed_entries = 64 })) "7 replaced 64"
+    ∷ said 8 hard_state_kept "8 hard-state"
+    ∷ said 9 (pointer_kept 64) "9 pointer"
+    ∷ said u64_max (refused 42) "18446744073709551615 refused 42"
+    ∷ said 10 (refused 2) "10 refused 2"
+    -- no answer to a record
+    ∷ said 11 finished "11 finished"
     ∷ []
 
 each_answer : T (every (λ b. b) answers)
-unfolding bytes unlines is said an_entry a_hard_state a_pointer answers digits_within decimal row
+unfolding bytes unlines is said answers digits_within decimal row
 each_answer = tt
 
 -- ---- states
@@ -189,5 +178,5 @@ journal =
     ∷ []
 
 each_journal : T (every (λ b. b) journal)
-unfolding bytes unlines is journal digits_within decimal row hex_text step_lines replica_line entry_line entry_lines state_text steps_text form_rows D.empty D.base D.count D.snapshot_boundary D.first_index D.last_index D.last D.place D.at D.first_retained_lsn D.is_held D.predecessor_term D.same_term D.same_content D.hard_state_successor_rows D.snapshot_successor_rows D.replay_rows D.install_rows D.rows D.answer_to D.placed D.with_entry D.with_hard_state D.beyond D.raised_by D.with_pointer D.accept D.largest_term D.maximum_observed_term D.normalized_to D.normalized_hard_state D.with_hard D.normalize_hard_state_term fresh_state C.lookup C.put C.keep C.ascending C.judged C.settled C.admitted C.visit C.log_clauses C.kept_lsns C.held_clauses C.state_clauses C.sound_state C.scan C.routed C.guarded C.observe_state C.state_answers C.state_after C.normalized C.normalized_state C.finish_state C.minimum_recovery_lsn
+unfolding bytes unlines is journal digits_within decimal row hex_text step_lines replica_line entry_line entry_lines state_text steps_text form_rows D.empty D.base D.count D.snapshot_boundary D.first_index D.last_index D.last D.place D.at D.first_retained_lsn D.is_held D.predecessor_term D.same_term D.same_content D.hard_state_successor_rows D.snapshot_successor_rows D.replay_rows D.install_rows D.rows D.answer_to D.placed D.with_entry D.with_hard_state D.beyond D.raised_by D.with_pointer D.accept D.largest_term D.maximum_observed_term D.normalized_to D.normalized_hard_state D.with_hard D.normalize_hard_state_term fresh_state C.lookup C.put C.keep C.ascending C.judged C.settled C.admitted C.visit C.log_clauses C.kept_lsns C.held_clauses C.state_clauses C.sound_state C.scan C.route_by C.routed C.guarded C.observe_state C.state_answers C.state_after C.normalized C.normalized_state C.finish_state C.minimum_recovery_lsn
 each_journal = tt

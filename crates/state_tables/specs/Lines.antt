@@ -3,7 +3,7 @@
 -- Assumes nothing.
 use Rattle.std.specs.Prelude.{ℕ, suc, List, [], ◌∷◌, ◌++◌, Option, None, Some}
 use Rattle.definition.specs.Records.{Payload, normal, configuration, inside, outside, Pointer, entry, hard_state, pointer, Content, content, Record}
-use Rattle.definition.specs.Log.{Entry, Log, base, Answer, counted, appended, idempotentReplay, kept, finished, replaced_suffix, refused}
+use Rattle.definition.specs.Log.{Entry, Log, base, Answer, counted, appended, idempotentReplay, hard_state_kept, pointer_kept, finished, replaced_suffix, refused}
 use Rattle.definition.specs.Recovery.{Held, State, fresh_state, joined, state_answers, state_after, finish_state}
 use Rattle.tables.specs.Tables.{decimal, row, refused_word, vote_field as maybeField}
 use Rattle.batch_tables.specs.Lines.{hex_text, checksum_text, change_fields}
@@ -53,32 +53,26 @@ entry_word = 101 ∷ 110 ∷ 116 ∷ 114 ∷ 121 ∷ []
 
 -- ---- a record's line
 
--- What an accepted record of no entry was: a hard state or a pointer.
-abbrev pub kept_word : Content → List ℕ
-kept_word None = hard_state_word
-kept_word (Some (i, entry version e)) = hard_state_word
-kept_word (Some (i, hard_state version h)) = hard_state_word
-kept_word (Some (i, pointer p)) = pointer_word
-
--- What a record was answered; `word` says what was kept.
-abbrev pub answer_fields : Answer → List ℕ → List (List ℕ)
-answer_fields counted word = foreign_word ∷ []
-answer_fields appended word = appended_word ∷ []
-answer_fields idempotentReplay word = repeated_word ∷ []
-answer_fields kept word = word ∷ []
-answer_fields finished word = finished_word ∷ []
-answer_fields (replaced_suffix r) word = replaced_word ∷ decimal r.removed_entries ∷ []
-answer_fields (refused n) word = refused_word ∷ decimal n ∷ []
+-- What a record was answered.
+abbrev pub answer_fields : Answer → List (List ℕ)
+answer_fields counted = foreign_word ∷ []
+answer_fields appended = appended_word ∷ []
+answer_fields idempotentReplay = repeated_word ∷ []
+answer_fields hard_state_kept = hard_state_word ∷ []
+answer_fields finished = finished_word ∷ []
+answer_fields (replaced_suffix r) = replaced_word ∷ decimal r.removed_entries ∷ []
+answer_fields (pointer_kept n) = pointer_word ∷ []
+answer_fields (refused n) = refused_word ∷ decimal n ∷ []
 
 -- LSN and answer
-abbrev pub step_line : ℕ → Answer → List ℕ → List ℕ
-step_line lsn a word = row (decimal lsn ∷ answer_fields a word)
+abbrev pub step_line : ℕ → Answer → List ℕ
+step_line lsn a = row (decimal lsn ∷ answer_fields a)
 
 -- Records and their answers, line by line.
 unfoldable pub step_lines : List Record → List Answer → List ℕ
 step_lines [] answers = []
 step_lines (r ∷ rs) [] = []
-step_lines (r ∷ rs) (a ∷ answers) = step_line r.lsn a (kept_word (content r)) ++ step_lines rs answers
+step_lines (r ∷ rs) (a ∷ answers) = step_line r.lsn a ++ step_lines rs answers
 
 -- ---- a replica's pointer and its entries, two spaces in front
 

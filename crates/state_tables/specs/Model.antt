@@ -17,17 +17,6 @@ use Rattle.state_tables.specs.Lines.{hard_state_word, pointer_word, step_line, p
 use Rattle.replica_line.specs.Model.{line_in}
 use Rattle.codec.specs.declared.RaftWalRecord.{RaftWalRecord}
 
--- ---- a record's line
-
-abbrev pub kept_in : Option RaftWalRecord → List ℕ
-kept_in None = hard_state_word
-kept_in (Some (W.Entry e)) = hard_state_word
-kept_in (Some (W.HardState h)) = hard_state_word
-kept_in (Some (W.SnapshotPointer p)) = pointer_word
-
-abbrev pub step_in : ℕ → Result Observation Refusal → Option RaftWalRecord → List ℕ
-step_in lsn a body = step_line lsn (answer_of a) (kept_in body)
-
 -- ---- a replica's lines
 
 -- The line of an entry with cell k of the store.

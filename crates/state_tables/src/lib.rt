@@ -7,36 +7,20 @@ ghost use Rattle.definition.specs.Records.{normal, inside};
 ghost use Rattle.view.specs.Meaning.{snapshot_of, payload_in, cell_at};
 ghost use Rattle.replay.specs.Plan.{answer_of};
 ghost use Rattle.tables.specs.Tables.{row};
-ghost use Rattle.state_tables.specs.Lines.{answer_fields, pointer_line, payload_fields};
-ghost use Rattle.state_tables.specs.Model.{kept_in, step_in, entry_in, entries_in, replica_in, scan_in, state_in};
+ghost use Rattle.state_tables.specs.Lines.{answer_fields, step_line, pointer_line, payload_fields};
+ghost use Rattle.state_tables.specs.Model.{entry_in, entries_in, replica_in, scan_in, state_in};
 
-use codec::{RaftSnapshotPointerRecord, RaftWalRecord};
+use codec::RaftSnapshotPointerRecord;
 use ids::Refusal;
 use replay::Observation;
 use storage::{RecoveredRaftStorage, Scan};
 use tables::Output;
 use view::{EntryPayload, RecoveredRaftLogEntry};
 
-// The word for what was kept, and the end of the line.
-fn put_kept(out: &mut Output<217088>, body: Option<RaftWalRecord>)
-    requires { length out.old + 11 ≤ 217088 }
-    ensures text { out.new ≡ out.old ++ row (kept_in body ∷ []) }
-    ensures short { length out.new ≤ length out.old + 11 }
-{
-    match body {
-        Some(RaftWalRecord::SnapshotPointer(_)) => out.put(b"pointer\n"),
-        _ => out.put(b"hard-state\n"),
-    }
-}
-
 // What a record was answered, and the end of the line.
-fn put_answer(
-    out: &mut Output<217088>,
-    answer: Result<Observation, Refusal>,
-    body: Option<RaftWalRecord>,
-)
+fn put_answer(out: &mut Output<217088>, answer: Result<Observation, Refusal>)
     requires { length out.old + 32 ≤ 217088 }
-    ensures text { out.new ≡ out.old ++ row (answer_fields (answer_of answer) (kept_in body)) }
+    ensures text { out.new ≡ out.old ++ row (answer_fields (answer_of answer)) }
     ensures short { length out.new ≤ length out.old + 32 }
 {
     match answer {
@@ -44,19 +28,15 @@ fn put_answer(
         Ok(Observation::Appended) => out.put(b"appended\n"),
         Ok(Observation::IdempotentReplay) => out.put(b"repeated\n"),
         Ok(Observation::ReplacedSuffix(r)) => out.put_count(b"replaced ", r.removed_entries),
-        Ok(Observation::Kept) => put_kept(out, body),
+        Ok(Observation::HardStateKept) => out.put(b"hard-state\n"),
+        Ok(Observation::PointerKept(_)) => out.put(b"pointer\n"),
         Err(why) => out.put_count(b"refused ", why.number() as usize),
     }
 }
 
 // A record's line. Where there is no room for the longest one, 53 bytes, nothing is written.
-pub fn write_step(
-    lsn: u64,
-    answer: Result<Observation, Refusal>,
-    body: Option<RaftWalRecord>,
-    out: &mut Output<217088>,
-)
-    ensures line { length out.old + 53 ≤ 217088 → out.new ≡ out.old ++ step_in lsn answer body }
+pub fn write_step(lsn: u64, answer: Result<Observation, Refusal>, out: &mut Output<217088>)
+    ensures line { length out.old + 53 ≤ 217088 → out.new ≡ out.old ++ step_line lsn (answer_of answer) }
     ensures full { 217088 < length out.old + 53 → out.new ≡ out.old }
     ensures short { length out.new ≤ length out.old + 53 }
 {
@@ -64,7 +44,7 @@ pub fn write_step(
         return;
     }
     out.put_number(lsn, b' ');
-    put_answer(out, answer, body);
+    put_answer(out, answer);
 }
 
 // pointer ID INDEX TERM APPLIED SIZE REST CHECKSUM, two spaces in front

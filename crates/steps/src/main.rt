@@ -25,7 +25,7 @@ fn observe_chunk(
     for r in records {
         let d = observing::observe_record(t, *r, lent, store);
         t = d.state;
-        state_tables::write_step(r.lsn.0, d.answer, r.body, out);
+        state_tables::write_step(r.lsn.0, d.answer, out);
     }
     t
 }

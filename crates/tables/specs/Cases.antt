@@ -4,7 +4,7 @@ use Rattle.std.specs.Prelude.{Bool, List, [], ◌∷◌, T, None, Some}
 use Rattle.definition.specs.Table.{u64_max, every, same_bytes}
 use Rattle.definition.specs.Records.{form_rows}
 use Rattle.definition.specs.Log.{empty, base, count, snapshot_boundary, last_index, last, place, at, is_held, predecessor_term, same_term, same_content, hard_state_successor_rows, snapshot_successor_rows, replay_rows, install_rows, rows, answer_to, placed, with_entry, with_hard_state, beyond, raised_by, with_pointer, accept, largest_term, maximum_observed_term, normalized_to, normalized_hard_state, with_hard, normalize_hard_state_term}
-use Rattle.definition.specs.Recovery.{held, State, fresh_state, lookup, put, keep, ascending, judged, settled, admitted, visit, log_clauses, kept_lsns, held_clauses, state_clauses, sound_state, scan, routed, guarded, observe_state, state_after, normalized, normalized_state, finish_state}
+use Rattle.definition.specs.Recovery.{held, State, fresh_state, lookup, put, keep, ascending, judged, settled, admitted, visit, log_clauses, kept_lsns, held_clauses, state_clauses, sound_state, scan, route_by, routed, guarded, observe_state, state_after, normalized, normalized_state, finish_state}
 use Rattle.definition.specs.Cases.Samples.{id, hard_of, snapshot_at, E, H, k_e, log_of, plain_log, no_log, state_of}
 use Rattle.tables.specs.Tables.{digits_within, decimal, row, lines_from, entry_count, tables, refused_line, malformed_line}
 
@@ -98,5 +98,5 @@ cases =
     ∷ []
 
 pub each_output : T (every (λ b. b) cases)
-unfolding example cases digits_within decimal row lines_from entry_count tables refused_line malformed_line form_rows empty base count snapshot_boundary last_index last place at is_held predecessor_term same_term same_content hard_state_successor_rows snapshot_successor_rows replay_rows install_rows rows answer_to placed with_entry with_hard_state beyond raised_by with_pointer accept largest_term maximum_observed_term normalized_to normalized_hard_state with_hard normalize_hard_state_term fresh_state lookup put keep ascending judged settled admitted visit log_clauses kept_lsns held_clauses state_clauses sound_state scan routed guarded observe_state state_after normalized normalized_state finish_state
+unfolding example cases digits_within decimal row lines_from entry_count tables refused_line malformed_line form_rows empty base count snapshot_boundary last_index last place at is_held predecessor_term same_term same_content hard_state_successor_rows snapshot_successor_rows replay_rows install_rows rows answer_to placed with_entry with_hard_state beyond raised_by with_pointer accept largest_term maximum_observed_term normalized_to normalized_hard_state with_hard normalize_hard_state_term fresh_state lookup put keep ascending judged settled admitted visit log_clauses kept_lsns held_clauses state_clauses sound_state scan route_by routed guarded observe_state state_after normalized normalized_state finish_state
 each_output = tt

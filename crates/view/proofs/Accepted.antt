@@ -8,7 +8,8 @@ use native.Mathlib.Omega.{arith}
 use borrow.Author.Tests.{eqb-true, eq-eqb, not-false}
 use lib.ListN.{length, get_or, length-append, length-set}
 use Rattle.std.specs.Prelude.{if◌then◌else◌, Option, None, Some}
-use Rattle.definition.specs.Table.{◌=?◌, Row, ◌when◌, first_of, u64_max}
+use Rattle.definition.specs.Table.{◌=?◌, Row, ◌when◌, first_of, is_some, u64_max}
+use Rattle.definition.specs.Recovery.{refusal_of}
 use Rattle.definition.specs.Records.{LogEntry, same_payload, unfit}
 use Rattle.definition.specs.Log as D
 use Rattle.definition.proofs.Laws.{clear}
@@ -37,13 +38,7 @@ use Rattle.view.proofs.Kept.{kept_record, kept_cell}
 use Rattle.view.proofs.Same.{payload_eq}
 
 abbrev pub refusing : D.Answer → Bool
-refusing D.counted = false
-refusing D.appended = false
-refusing D.idempotentReplay = false
-refusing D.kept = false
-refusing D.finished = false
-refusing (D.replaced_suffix r) = false
-refusing (D.refused n) = true
+refusing a = is_some (refusal_of a)
 
 -- An answer that is no refusal: no row refuses, and it is the accepted one.
 record Taken (o : Option ℕ) (a b : D.Answer) : Type 0 where

@@ -8,7 +8,7 @@ use native.Mathlib.Omega.{arith}
 use native.Mathlib.Nat.{zero-add}
 use borrow.Author.Tests.{ltb-true, ltb-false, le-leb, lt-leb}
 use lib.Dec.{ltb}
-use lib.ListN.{length, get_or, drop, drop_of_length-le}
+use lib.ListN.{length, length-drop, get_or, drop, drop_of_length-le}
 use Rattle.std.specs.Prelude.{if◌then◌else◌, Option, None, Some}
 use Rattle.definition.specs.Table.{◌<?◌, ◌≤?◌, u64_max}
 use Rattle.definition.specs.Log as D
@@ -125,6 +125,13 @@ drop_most l j = go (ltb j (length l)) refl
 module _ (h : Header) (es : List RecoveredRaftLogEntry) (cs : List ℕ) (p : RaftSnapshotPointerRecord) (l : Lsn) (f : Fits h es cs) (le : length es ≡ 64) (lc : length cs ≡ 4096) where
   abbrev k : ℕ
   k = covered_by h p.last_included_index
+
+  -- as many as are not beyond it
+  pub covered_is : k ≡ D.count (view_of h es cs) - length (D.beyond (pointer_of p) (view_of h es cs))
+  unfolding view_of D.beyond D.base D.count
+  covered_is =
+      let far : ℕ = min (p.last_included_index + 1) u64_max - base_of h in
+      omega (arith, length_tab h.len (entry_at es cs), length-drop far (tab h.len (entry_at es cs)))
 
   pub pointer_view : view_of (with_pointer h p l k) (dropped_entries es k h.len) (dropped_bytes cs k) ≡ D.with_pointer (pointer_of p) l.0 (view_of h es cs)
   unfolding view_of D.with_pointer D.beyond D.base

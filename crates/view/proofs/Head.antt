@@ -19,8 +19,8 @@ use Rattle.codec.specs.Records.{hard_state_of, maybe_hard_state_of}
 use Rattle.view.specs.declared.RecoveredRaftLogEntry.{RecoveredRaftLogEntry}
 use Rattle.view.specs.declared.Header.{Header}
 use Rattle.view.specs.Tab.{tab}
-use Rattle.view.specs.Meaning.{no_entry, entry_at, view_of, with_committed, Fits}
-use Rattle.view.specs.Model.{empty_header, with_commit, with_hard, with_hard_state, unvoted_hard, largest_of, maximum_term, normalized_from, normalized_hard, finished}
+use Rattle.view.specs.Meaning.{no_entry, entry_at, view_of, Fits}
+use Rattle.view.specs.Model.{empty_header, with_hard, with_hard_state, unvoted_hard, largest_of, maximum_term, normalized_from, normalized_hard, finished}
 use Rattle.view.proofs.Block.{head_fits}
 
 -- A replica that holds nothing, over zeros.
@@ -50,14 +50,6 @@ module _ (h : Header) (es : List RecoveredRaftLogEntry) (cs : List ℕ) where
   pub hard_view : (x : Option HardState) → view_of (with_hard h x) es cs ≡ D.with_hard (maybe_hard_state_of x) (view_of h es cs)
   unfolding view_of D.with_hard
   hard_view x = refl
-
-  -- The view's commit is advanced: another commit, and nothing else.
-  pub commit_view : (c : ℕ) → view_of (with_commit h c) es cs ≡ with_committed c (view_of h es cs)
-  unfolding view_of
-  commit_view c = refl
-
-  pub commit_fits : (c : ℕ) → Fits h es cs → Fits (with_commit h c) es cs
-  commit_fits c f = head_fits f refl refl
 
 -- The largest of the terms at places that the entries have.
 largest_tab : (n : ℕ) (es : List RecoveredRaftLogEntry) (g : ℕ → D.Entry ℕ) → n ≤ length es → ((i : ℕ) → i < n → (g i).term ≡ (get_or es i no_entry).term)

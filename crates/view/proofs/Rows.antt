@@ -115,11 +115,6 @@ module _ (h : Header) (es : List RecoveredRaftLogEntry) (cs : List ℕ) (f : Fit
   unfolding D.rows view_of
   hard_state_rows_lem i version x = rw (last_is h es cs f.indices)
 
-  pub hard_state_answer : (i : Identity) (version t : ℕ) (x : HardState) → (settled i (hard_state version (hard_state_of x)) t log).answer ≡ answered (first_of (hard_state_rows_of h x)) D.kept
-  unfolding settled D.answer_to
-  hard_state_answer i version t x =
-      judged_answer (first_of (D.rows i (hard_state version (hard_state_of x)) log)) (hard_state version (hard_state_of x)) t log ∙ (rw (hard_state_rows_lem i version x))
-
   -- A pointer, where `held` is the term of the entry at its index.
   module _ (p : RaftSnapshotPointerRecord) (held : Option ℕ) (told : option_map (λ o. o.term) (D.at log p.last_included_index) ≡ held) where
     pub install_rows_lem : D.install_rows (pointer_of p) log ≡ install_rows_of h p held
@@ -134,6 +129,3 @@ module _ (h : Header) (es : List RecoveredRaftLogEntry) (cs : List ℕ) (f : Fit
     unfolding D.rows
     pointer_rows_lem i = rw (install_rows_lem, kept_pointer_lem i)
 
-    pub pointer_answer : (i : Identity) (t : ℕ) → (settled i (pointer (pointer_of p)) t log).answer ≡ answered (first_of (pointer_rows_of i h p held)) D.kept
-    unfolding settled D.answer_to
-    pointer_answer i t = judged_answer (first_of (D.rows i (pointer (pointer_of p)) log)) (pointer (pointer_of p)) t log ∙ (rw (pointer_rows_lem i))

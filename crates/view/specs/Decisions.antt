@@ -88,10 +88,6 @@ hard_state_rows_of h x =
     D.hard_state_successor_rows (hard_state_of x) (maybe_hard_state_of h.hard_state)
     ++ (37 when last_of h <? x.commit) ∷ (38 when x.commit <? h.committed_index) ∷ []
 
--- A pointer of the replica i after another, and after the kept one (39, 40).
-abbrev pub follow_rows_of : Identity → RaftSnapshotPointerRecord → RaftSnapshotPointerRecord → List Row
-follow_rows_of i old p = D.snapshot_successor_rows (record { identity = i; snapshot = pointer_of p }) (Some (record { identity = i; snapshot = pointer_of old }))
-
 abbrev pub successor_rows_of : Identity → Option RaftSnapshotPointerRecord → RaftSnapshotPointerRecord → List Row
 successor_rows_of i kept p =
     D.snapshot_successor_rows (record { identity = i; snapshot = pointer_of p }) (option_map (λ q. record { identity = i; snapshot = q }) (snapshot_of kept))

@@ -3,8 +3,8 @@
 use Rattle.std.specs.Prelude.{ℕ, ◌+◌, Bool, ◌&&◌, not, List, [], ◌∷◌, ◌++◌, map, T, Option, None, Some}
 use Rattle.definition.specs.Table.{◌=?◌, ◌<?◌, ◌≤?◌, first_of, every, u64_max}
 use Rattle.definition.specs.Records.{Record, entry, form_rows}
-use Rattle.definition.specs.Log.{Log, counted, appended, idempotentReplay, kept, refused, replaced_suffix, PointerRecord, empty, base, count, snapshot_boundary, last_index, last, place, at, is_held, predecessor_term, same_term, same_content, hard_state_successor_rows, snapshot_successor_rows, replay_rows, install_rows, rows, answer_to, placed, with_entry, with_hard_state, beyond, raised_by, with_pointer, accept}
-use Rattle.definition.specs.Recovery.{fresh_state, lookup, put, keep, ascending, judged, settled, admitted, visit, log_clauses, kept_lsns, held_clauses, state_clauses, sound_state, scan, routed, guarded, observe_state, state_after, replica_of, is_accepted}
+use Rattle.definition.specs.Log.{Log, counted, appended, idempotentReplay, hard_state_kept, pointer_kept, refused, replaced_suffix, PointerRecord, empty, base, count, snapshot_boundary, last_index, last, place, at, is_held, predecessor_term, same_term, same_content, hard_state_successor_rows, snapshot_successor_rows, replay_rows, install_rows, rows, answer_to, placed, with_entry, with_hard_state, beyond, raised_by, with_pointer, accept}
+use Rattle.definition.specs.Recovery.{fresh_state, lookup, put, keep, ascending, judged, settled, admitted, visit, log_clauses, kept_lsns, held_clauses, state_clauses, sound_state, scan, route_by, routed, guarded, observe_state, state_after, replica_of, is_accepted}
 use Rattle.definition.specs.Batch.{Batch, fits_batch}
 use Rattle.definition.specs.Healthy.{low_pointer, never_fall}
 use Rattle.definition.specs.Retired.{replay_rows_of_01, rows_of_01}
@@ -61,7 +61,7 @@ guaranteed =
 -- The answers to accepted records, and another.
 answered : List Bool
 answered =
-    every is_accepted (counted ∷ appended ∷ idempotentReplay ∷ replaced_suffix (record { removed_entries = 1 }) ∷ kept ∷ [])
+    every is_accepted (counted ∷ appended ∷ idempotentReplay ∷ replaced_suffix (record { removed_entries = 1 }) ∷ hard_state_kept ∷ pointer_kept 2 ∷ [])
     ∷ not (is_accepted (refused 2))
     ∷ []
 
@@ -108,5 +108,5 @@ retired =
     ∷ []
 
 each_guarantee : T (every (λ b. b) (terms ++ guaranteed ++ answered ++ retired))
-unfolding falls_not terms left holds replaced_and_cut guaranteed answered by_01 now batch retired never_fall replay_rows_of_01 rows_of_01 form_rows empty base count snapshot_boundary last_index last place at is_held predecessor_term same_term same_content hard_state_successor_rows snapshot_successor_rows replay_rows install_rows rows answer_to placed with_entry with_hard_state beyond raised_by with_pointer accept fresh_state lookup put keep ascending judged settled admitted visit log_clauses kept_lsns held_clauses state_clauses sound_state scan routed guarded observe_state state_after replica_of
+unfolding falls_not terms left holds replaced_and_cut guaranteed answered by_01 now batch retired never_fall replay_rows_of_01 rows_of_01 form_rows empty base count snapshot_boundary last_index last place at is_held predecessor_term same_term same_content hard_state_successor_rows snapshot_successor_rows replay_rows install_rows rows answer_to placed with_entry with_hard_state beyond raised_by with_pointer accept fresh_state lookup put keep ascending judged settled admitted visit log_clauses kept_lsns held_clauses state_clauses sound_state scan route_by routed guarded observe_state state_after replica_of
 each_guarantee = tt

@@ -3,11 +3,11 @@
 use Rattle.std.specs.Prelude.{ℕ, ◌+◌, Bool, true, false, ◌&&◌, not, List, [], ◌∷◌, ◌++◌, length, take, T, Option, None, Some, Result, Ok, Err}
 use Rattle.definition.specs.Table.{◌=?◌, every}
 use Rattle.definition.specs.Records.{same_payload, same_pointer, HardState, Record, form_rows}
-use Rattle.definition.specs.Log.{Log, Answer, appended, kept, refused, PointerRecord, empty, base, count, snapshot_boundary, last_index, last, place, at, is_held, predecessor_term, same_term, same_content, hard_state_successor_rows, snapshot_successor_rows, replay_rows, install_rows, rows, answer_to, placed, with_entry, with_hard_state, beyond, raised_by, with_pointer, accept, largest_term, maximum_observed_term, normalized_to, normalized_hard_state, with_hard, normalize_hard_state_term}
-use Rattle.definition.specs.Recovery.{held, State, fresh_state, lookup, put, keep, ascending, judged, settled, admitted, visit, log_clauses, kept_lsns, held_clauses, state_clauses, sound_state, scan, routed, guarded, observe_state, normalized, normalized_state, state_answers, state_after, replica_of}
+use Rattle.definition.specs.Log.{Log, Answer, appended, hard_state_kept, pointer_kept, refused, PointerRecord, empty, base, count, snapshot_boundary, last_index, last, place, at, is_held, predecessor_term, same_term, same_content, hard_state_successor_rows, snapshot_successor_rows, replay_rows, install_rows, rows, answer_to, placed, with_entry, with_hard_state, beyond, raised_by, with_pointer, accept, largest_term, maximum_observed_term, normalized_to, normalized_hard_state, with_hard, normalize_hard_state_term}
+use Rattle.definition.specs.Recovery.{all_accepted, held, State, fresh_state, lookup, put, keep, ascending, judged, settled, admitted, visit, log_clauses, kept_lsns, held_clauses, state_clauses, sound_state, scan, route_by, routed, guarded, observe_state, normalized, normalized_state, state_answers, state_after, replica_of}
 use Rattle.definition.specs.Batch.{BatchEntry, Batch, Prepared, Preview, batch_rows, batch_pointer_rows, batch_entry_rows, batch_hard_state_rows, concluded, hardened, extended, pointed, prepare_on}
 use Rattle.definition.specs.Two.{map_entry}
-use Rattle.definition.specs.ReadBack.{all_accepted, commits_less, bare_entries}
+use Rattle.definition.specs.ReadBack.{commits_less, bare_entries}
 use Rattle.definition.specs.Cases.Samples.{one, id, byte, log_entry, hard_of, snapshot_at, of, E, H, P, up_to, k_e, no_log, plain_log, state_of, only, same_option, same_list, same_hard, replaced, passes, from_state}
 
 batch : Option PointerRecord → List BatchEntry → Option HardState → Batch
@@ -66,7 +66,7 @@ commit_5 = batch None [] (h 2 None 5)
 commits : List Bool
 commits =
     read case_j case_j commit_4 1 (refused 38 ∷ []) (λ v log. true)
-    ∷ read case_j case_j commit_5 1 (kept ∷ []) shown_whole
+    ∷ read case_j case_j commit_5 1 (hard_state_kept ∷ []) shown_whole
     ∷ commits_less commit_4 (replica_of one case_j)
     ∷ not (commits_less commit_5 (replica_of one case_j))
     ∷ not (commits_less (batch None (e 6 2 ∷ []) None) (replica_of one case_j))
@@ -92,20 +92,20 @@ cuts : List Bool
 cuts =
     read entry_1 entry_1 two 0 [] (holds 1)
     ∷ read entry_1 entry_1 two 1 (appended ∷ []) (holds 2)
-    ∷ read entry_1 entry_1 two 2 (appended ∷ kept ∷ []) shown_whole
-    ∷ read entries_3 entries_3 pointed_batch 1 (kept ∷ []) (holds 1)
-    ∷ read entries_3 entries_3 pointed_batch 2 (kept ∷ replaced 1 ∷ []) (holds 1)
-    ∷ read entries_3 entries_3 pointed_batch 3 (kept ∷ replaced 1 ∷ appended ∷ []) (holds 2)
-    ∷ read entries_3 entries_3 pointed_batch 4 (kept ∷ replaced 1 ∷ appended ∷ kept ∷ []) shown_whole
+    ∷ read entry_1 entry_1 two 2 (appended ∷ hard_state_kept ∷ []) shown_whole
+    ∷ read entries_3 entries_3 pointed_batch 1 (pointer_kept 2 ∷ []) (holds 1)
+    ∷ read entries_3 entries_3 pointed_batch 2 (pointer_kept 2 ∷ replaced 1 ∷ []) (holds 1)
+    ∷ read entries_3 entries_3 pointed_batch 3 (pointer_kept 2 ∷ replaced 1 ∷ appended ∷ []) (holds 2)
+    ∷ read entries_3 entries_3 pointed_batch 4 (pointer_kept 2 ∷ replaced 1 ∷ appended ∷ hard_state_kept ∷ []) shown_whole
     -- a replica that is not held
-    ∷ read (after []) (after []) first_entry 2 (appended ∷ kept ∷ []) shown_whole
+    ∷ read (after []) (after []) first_entry 2 (appended ∷ hard_state_kept ∷ []) shown_whole
     ∷ []
 
 -- Prepared on the finished state, read back where it is not finished; the other way round the records may be refused.
 finishing : List Bool
 finishing =
     read (normalized_state entry_1) entry_1 (batch None (e 2 4 ∷ []) None) 1 (appended ∷ []) (λ v log. shown v log && not (shown_whole v log))
-    ∷ read entry_1 (normalized_state entry_1) (batch (p 7 2) [] (h 3 None 7)) 2 (kept ∷ refused 33 ∷ []) (λ v log. true)
+    ∷ read entry_1 (normalized_state entry_1) (batch (p 7 2) [] (h 3 None 7)) 2 (pointer_kept 1 ∷ refused 33 ∷ []) (λ v log. true)
     ∷ []
 
 -- No room: for a ninth replica, and for the last of 34 records.
@@ -130,10 +130,10 @@ rooms =
     read eight eight first_entry 2 (refused 23 ∷ refused 23 ∷ []) (holds 0)
     ∷ takes_all 18446744073709551581
     ∷ not (takes_all 18446744073709551582)
-    ∷ all_accepted (appended ∷ kept ∷ [])
+    ∷ all_accepted (appended ∷ hard_state_kept ∷ [])
     ∷ not (all_accepted (appended ∷ refused 38 ∷ []))
     ∷ []
 
 each_cut : T (every (λ b. b) (commits ++ cuts ++ finishing ++ rooms))
-unfolding batch e p h after written shown shown_whole read holds case_j commit_4 commit_5 commits entry_1 two pointed_batch entries_3 first_entry cuts finishing eight counting longest takes_all rooms map_entry form_rows empty base count snapshot_boundary last_index last place at is_held predecessor_term same_term same_content hard_state_successor_rows snapshot_successor_rows replay_rows install_rows rows answer_to placed with_entry with_hard_state beyond raised_by with_pointer accept largest_term maximum_observed_term normalized_to normalized_hard_state with_hard normalize_hard_state_term fresh_state lookup put keep ascending judged settled admitted visit log_clauses kept_lsns held_clauses state_clauses sound_state scan routed guarded observe_state normalized normalized_state state_answers state_after replica_of batch_rows batch_pointer_rows batch_entry_rows batch_hard_state_rows concluded hardened extended pointed prepare_on
+unfolding batch e p h after written shown shown_whole read holds case_j commit_4 commit_5 commits entry_1 two pointed_batch entries_3 first_entry cuts finishing eight counting longest takes_all rooms map_entry form_rows empty base count snapshot_boundary last_index last place at is_held predecessor_term same_term same_content hard_state_successor_rows snapshot_successor_rows replay_rows install_rows rows answer_to placed with_entry with_hard_state beyond raised_by with_pointer accept largest_term maximum_observed_term normalized_to normalized_hard_state with_hard normalize_hard_state_term fresh_state lookup put keep ascending judged settled admitted visit log_clauses kept_lsns held_clauses state_clauses sound_state scan route_by routed guarded observe_state normalized normalized_state state_answers state_after replica_of batch_rows batch_pointer_rows batch_entry_rows batch_hard_state_rows concluded hardened extended pointed prepare_on
 each_cut = tt

@@ -23,4 +23,4 @@ pub returns : goal.returns
 returns c st lent size =
     let a = c.args in
     let row = sym c.decide_hard_state.ensures ∙ ap checked_of c.in_ok-decide_hard_state.was in
-    only_head a.t.now st a.p (W.HardState a.r) a.lsn lent _ _ refl refl size c.requires D.kept _ (rw (row, c.with_hard_state.ensures) refl)
+    only_head a.t.now st a.p (W.HardState a.r) a.lsn lent _ _ refl refl size c.requires D.hard_state_kept _ (rw (row, c.with_hard_state.ensures) refl)

@@ -1,2 +1,0 @@
--- What passing 1 and 2 says of the scan.
--- Assumes nothing.
