@@ -50,7 +50,8 @@ accepted_answer (Ok O.Counted) f = refl
 accepted_answer (Ok O.Appended) f = refl
 accepted_answer (Ok O.IdempotentReplay) f = refl
 accepted_answer (Ok (O.ReplacedSuffix r)) f = refl
-accepted_answer (Ok O.Kept) f = refl
+accepted_answer (Ok O.HardStateKept) f = refl
+accepted_answer (Ok (O.PointerKept n)) f = refl
 accepted_answer (Err w) f = absurd (f w refl)
 
 module _ (n : ℕ) (s : RecoveredRaftStorage) (st : List ℕ) (k : Follows n s st) (ws : List WalRecord) (lent : List ℕ) (d : ObservedChunk) (st' : List ℕ)

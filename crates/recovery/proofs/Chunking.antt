@@ -2,11 +2,10 @@
 -- Assumes nothing.
 use Rattle.std.specs.Prelude.{None, Result, Ok, Err}
 use Rattle.std.specs.Result.{is_err}
-use mathlib.Core.Path.{◌≡◌, refl, sym, ap}
+use mathlib.Core.Path.{◌≡◌, refl, sym}
 use mathlib.Core.Bool.{true, false, true≢false}
 use mathlib.Core.List.{List}
 use Prim.Native.Nat.{ℕ, ◌+◌, ◌<◌, ◌≤◌}
-use native.Mathlib.Omega.{arith}
 use lib.ListN.{length, get_or}
 use Rattle.definition.specs.Log as D
 use Rattle.definition.specs.Recovery.{out, observe, refusal_of}
@@ -57,11 +56,8 @@ taken_answer (Ok (O.PointerKept n)) e = refl
 taken_answer (Err w) e = absurd (true≢false (sym e))
 
 module _ (s : RecoveredRaftStorage) (st : List ℕ) (rs : List WalRecord) (lent : List ℕ) (t : RecoveredRaftStorage) (u : List ℕ) (b : Result Observation Refusal) (i : ℕ) (k : Chunking s st rs lent t u (answer_of b) i) where
-  pub chunk_end : length rs ≤ i → Runs s st rs lent (record { taken = length rs; answer = b; state = t }) u
-  chunk_end l =
-      let e : length rs ≡ i = omega (arith, k.running.within) in
-      running_end s st rs lent k.eight k.all k.sound t u (answer_of b) i k.running l k.accepted (record { taken = length rs; answer = b; state = t }) u
-      (ap (λ (n : ℕ). record { taken = n; answer = answer_of b; state = t; store = u }) e)
+  pub chunk_end : length rs ≤ i → Runs s st rs lent (record { taken = i; answer = b; state = t }) u
+  chunk_end l = running_end s st rs lent k.eight k.all k.sound t u (answer_of b) i k.running l k.accepted (record { taken = i; answer = b; state = t }) u refl
 
   -- The record at i, and what its step leaves.
   module _ (lt : i < length rs) (z : WalRecord) (b' : Result Observation Refusal) (t' : RecoveredRaftStorage) (u' : List ℕ) (m : index_in (get_or rs i z).body < 18446744073709551616) (x : stepped t u (get_or rs i z) lent ≡ record { answer = answer_of b'; state = t'; store = u' }) where

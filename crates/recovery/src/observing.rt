@@ -171,30 +171,23 @@ pub fn observe_records(
 ) -> ObservedChunk
     ensures { Runs state store.old records.now lent.now result store.new }
 {
-    if !soundness::is_sound(&state, store) {
-        return ObservedChunk {
-            taken: 0,
-            answer: Err(Refusal::Unsound),
-            state,
-        };
+    let mut done = ObservedChunk {
+        taken: 0,
+        answer: Err(Refusal::Unsound),
+        state,
+    };
+    if !soundness::is_sound(&done.state, store) {
+        return done;
     }
-    let mut t = state;
-    let mut answer = Ok(Observation::Counted);
-    for (taken, r) in records.iter().enumerate() {
-        answer = observe_next(&mut t, store, *r, lent);
-        if answer.is_err() {
-            return ObservedChunk {
-                taken,
-                answer,
-                state: t,
-            };
+    done.answer = Ok(Observation::Counted);
+    for r in records {
+        done.answer = observe_next(&mut done.state, store, *r, lent);
+        if done.answer.is_err() {
+            return done;
         }
+        done.taken += 1;
     }
-    ObservedChunk {
-        taken: records.len(),
-        answer,
-        state: t,
-    }
+    done
 }
 
 // One record.
@@ -206,13 +199,12 @@ pub fn observe_record(
 ) -> Observed
     ensures { Observing state store.old r lent.now result store.new }
 {
-    let mut t = state;
-    if !soundness::is_sound(&t, store) {
-        return Observed {
-            answer: Err(Refusal::Unsound),
-            state,
-        };
+    let mut done = Observed {
+        answer: Err(Refusal::Unsound),
+        state,
+    };
+    if soundness::is_sound(&done.state, store) {
+        done.answer = observe_next(&mut done.state, store, r, lent);
     }
-    let answer = observe_next(&mut t, store, r, lent);
-    Observed { answer, state: t }
+    done
 }

@@ -1,17 +1,11 @@
 -- The output on the flat state is the definition's output on what the state means, where counts and indices keep their limits.
 -- Assumes nothing.
-use Rattle.std.specs.Prelude.{Option, None, Some, Result}
-use Rattle.ids.specs.declared.Refusal.{Refusal}
 use mathlib.Core.Path.{◌≡◌, refl, sym, ap, ◌∙◌}
 use mathlib.Core.List.{List, ◌++◌}
 use Prim.Native.Nat.{ℕ, zero, suc, ◌+◌, ◌*◌, ◌<◌}
 use native.Mathlib.Omega.{arith}
 use lib.ListN.{length, get_or}
-use Rattle.definition.specs.Records.{content, content_of}
 use Rattle.definition.specs.Log.{Entry, base}
-use Rattle.codec.specs.declared.RaftWalRecord.TheVariants as W
-use Rattle.codec.specs.declared.WalRecord.{WalRecord}
-use Rattle.codec.specs.Records.{body_of, record_of}
 use Rattle.store.proofs.Part.{get_d_part}
 use Rattle.view.specs.declared.RecoveredRaftLogEntry.{RecoveredRaftLogEntry}
 use Rattle.view.specs.declared.Header.{Header}
@@ -19,8 +13,6 @@ use Rattle.view.specs.Tab.{tab}
 use Rattle.view.specs.Meaning.{lsn_of, no_entry, payload_in, entry_at, view_of, snapshot_of, base_of, Fits}
 use Rattle.view.specs.Readers.{first_retained_of}
 use Rattle.view.proofs.Readers.{count_is, boundary_is, first_index_is, last_index_is, first_retained_is}
-use Rattle.replay.specs.declared.Observation.{Observation}
-use Rattle.replay.specs.Plan.{answer_of}
 use Rattle.storage.specs.declared.RecoveredRaftStorage.{RecoveredRaftStorage}
 use Rattle.storage.specs.Model.{head_at, bytes_in, entries_in as entries_of}
 use Rattle.storage.specs.Meaning.{held_at, meaning, Linked}
@@ -31,7 +23,6 @@ use Rattle.replica_line.specs.Lines.{line_of, replica_line}
 use Rattle.state_tables.specs.Lines.{pointer_line, entry_line, entry_lines, replica_text, state_text}
 use Rattle.replica_line.specs.Model.{line_in}
 use Rattle.state_tables.specs.Model.{entry_in, place_in, entries_in, replica_in, scan_in, state_in}
-use Rattle.codec.specs.declared.RaftWalRecord.{RaftWalRecord}
 
 -- ---- a replica
 

@@ -4,16 +4,16 @@ use Rattle.std.specs.Prelude.{ℕ, Bool, List, [], ◌∷◌, ◌++◌, T, repli
 use Prim.Native.Char.{code}
 use Prim.Native.String.{String, [] as empty, ◌∷◌ as ◌then◌}
 use Rattle.definition.specs.Table.{u64_max, every, same_bytes}
-use Rattle.definition.specs.Records.{normal, configuration, inside, outside, addLearner, promoteLearner, removeReplica, entry, hard_state, pointer, Content, form_rows}
+use Rattle.definition.specs.Records.{normal, configuration, inside, outside, addLearner, promoteLearner, removeReplica, form_rows}
 use Rattle.definition.specs.Log as D
 use Rattle.definition.specs.Log.{Log, counted, appended, idempotentReplay, hard_state_kept, pointer_kept, finished, replaced_suffix, refused}
 use Rattle.definition.specs.Recovery as C
 use Rattle.definition.specs.Recovery.{held, fresh_state}
-use Rattle.definition.specs.Cases.Samples.{one, id, hard_of, snapshot_at, log_entry, byte, E, Ep, H, P, F, k_e, k_ep, log_of, plain_log, no_log, state_of}
+use Rattle.definition.specs.Cases.Samples.{id, hard_of, snapshot_at, E, Ep, H, P, F, k_e, k_ep, log_of, plain_log, no_log, state_of}
 use Rattle.tables.specs.Tables.{digits_within, decimal, row}
 use Rattle.batch_tables.specs.Lines.{hex_text}
 use Rattle.replica_line.specs.Lines.{replica_line}
-use Rattle.state_tables.specs.Lines.{kept_word, step_line, step_lines, entry_line, entry_lines, state_text, steps_text}
+use Rattle.state_tables.specs.Lines.{step_line, step_lines, entry_line, entry_lines, state_text, steps_text}
 
 -- the bytes of a text, and of lines of text
 bytes : String → List ℕ

@@ -2,7 +2,7 @@
 -- spaces, and a newline at the end of each line.
 -- Assumes nothing.
 use Rattle.std.specs.Prelude.{ℕ, suc, List, [], ◌∷◌, ◌++◌, Option, None, Some}
-use Rattle.definition.specs.Records.{Payload, normal, configuration, inside, outside, Pointer, entry, hard_state, pointer, Content, content, Record}
+use Rattle.definition.specs.Records.{Payload, normal, configuration, inside, outside, Pointer, Record}
 use Rattle.definition.specs.Log.{Entry, Log, base, Answer, counted, appended, idempotentReplay, hard_state_kept, pointer_kept, finished, replaced_suffix, refused}
 use Rattle.definition.specs.Recovery.{Held, State, fresh_state, joined, state_answers, state_after, finish_state}
 use Rattle.tables.specs.Tables.{decimal, row, refused_word, vote_field as maybeField}

@@ -1,21 +1,16 @@
 -- The output on the declared types: what the code writes, also of a state that keeps no limit. Places held count as at most 8, a replica's
 -- entries as at most 64, an index past 2^64 - 1 is 2^64 - 1, and a command has the bytes that its cell of the store has.
 -- Assumes nothing.
-use Rattle.std.specs.Prelude.{List, ◌++◌, ℕ, ◌+◌, ◌*◌, get_or, Option, None, Some, Result}
-use Rattle.ids.specs.declared.Refusal.{Refusal}
-use Rattle.codec.specs.declared.RaftWalRecord.TheVariants as W
+use Rattle.std.specs.Prelude.{List, ◌++◌, ℕ, ◌+◌, ◌*◌, get_or}
 use Rattle.view.specs.declared.RecoveredRaftLogEntry.{RecoveredRaftLogEntry}
 use Rattle.view.specs.Meaning.{lsn_of, snapshot_of, payload_in, no_entry, cell_at, base_of}
-use Rattle.replay.specs.declared.Observation.{Observation}
-use Rattle.replay.specs.Plan.{answer_of}
 use Rattle.storage.specs.declared.Scan.{Scan}
 use Rattle.storage.specs.declared.RecoveredRaftStorage.{RecoveredRaftStorage}
 use Rattle.storage.specs.Model.{head_at}
 use Rattle.tables.specs.Model.{lines_to, index_at, len_of, held_in}
 use Rattle.replica_line.specs.Lines.{replica_line}
-use Rattle.state_tables.specs.Lines.{hard_state_word, pointer_word, step_line, pointer_line, entry_line, scan_line}
+use Rattle.state_tables.specs.Lines.{pointer_line, entry_line, scan_line}
 use Rattle.replica_line.specs.Model.{line_in}
-use Rattle.codec.specs.declared.RaftWalRecord.{RaftWalRecord}
 
 -- ---- a replica's lines
 

@@ -5,23 +5,23 @@ use Rattle.routing.proofs.Ready.{test_ready}
 use Rattle.recovery.proofs.One.{one_observes, one_unsound}
 use Rattle.recovery.proofs.observing.observe_record.Goals as goal
 
-pub returns-then-not-is_sound : goal.returns-then-not-is_sound
-returns-then-not-is_sound c =
+pub observe_next-done-requires : goal.observe_next-done-requires
+observe_next-done-requires c =
     let a = c.args in
     let eight : length a.state.heads ≡ 8 = search rules in
     let all : length a.state.entries ≡ 512 = search rules in
-    one_unsound a.state a.store.now a.r a.lent.now eight all (sym c.is_sound.ensures ∙ c.if-not-is_sound.true)
+    test_ready a.state a.store.now eight all (sym c.is_sound.ensures ∙ c.if-is_sound.true)
 
-pub observe_next-answer-requires : goal.observe_next-answer-requires
-observe_next-answer-requires c =
+pub returns-then-is_sound : goal.returns-then-is_sound
+returns-then-is_sound c =
     let a = c.args in
     let eight : length a.state.heads ≡ 8 = search rules in
     let all : length a.state.entries ≡ 512 = search rules in
-    test_ready a.state a.store.now eight all (sym c.is_sound.ensures ∙ c.if-not-is_sound.false)
+    one_observes a.state a.store.now a.r a.lent.now eight all (sym c.is_sound.ensures ∙ c.if-is_sound.true) _ _ _ c.observe_next-done.ensures.fits c.observe_next-done.ensures.model
 
-pub returns : goal.returns
-returns c =
+pub returns-else-is_sound : goal.returns-else-is_sound
+returns-else-is_sound c =
     let a = c.args in
     let eight : length a.state.heads ≡ 8 = search rules in
     let all : length a.state.entries ≡ 512 = search rules in
-    one_observes a.state a.store.now a.r a.lent.now eight all (sym c.is_sound.ensures ∙ c.if-not-is_sound.false) _ _ _ c.observe_next-answer.ensures.fits c.observe_next-answer.ensures.model
+    one_unsound a.state a.store.now a.r a.lent.now eight all (sym c.is_sound.ensures ∙ c.if-is_sound.false)
