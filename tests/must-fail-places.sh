@@ -5,8 +5,9 @@
 # read: there must be one of that declaration's own (not one that only passes on another's) in which a fact fails. That the proof names a
 # place which the edited program no longer has shows nothing. Nor may a definition be refused, or the edited text not be read: an edit
 # that makes no sense shows nothing either. Counted apart, as weaker: faults whose only errors say that a rewrite no longer applies (what
-# the program tests or does is not what the goal speaks of). With LOGS=FOLDER the logs stay there. With EDITS=FOLDER the edits are those of
-# FOLDER/NAME in place of crates/NAME/must-fail (scripts/wrong_programs.sh). Run after rt ci.
+# the program tests or does is not what the goal speaks of). An edit of functions alone is checked with --only, any other with the whole
+# crate. With LOGS=FOLDER the logs stay there. With EDITS=FOLDER the edits are those of FOLDER/NAME in place of crates/NAME/must-fail
+# (scripts/wrong_programs.sh). Run after rt ci.
 set -euo pipefail
 cd "$(dirname "${BASH_SOURCE[0]}")/.."
 
@@ -37,21 +38,28 @@ words_of() { # CRATE
     echo "-Ldependency=$kit/rlibs" "--antt-project=$kit/rattle/logic/antt-project.json" "--logic-built=$kit/logic_built" --crate-name "$1"
 }
 
-# Checks a copy of a crate, over what a check without an edit kept, if there was one; once more if it did not come to an end.
-check() { # COPY KEPT LOG WORDS..
+# Checks a copy of a crate; once more if it did not come to an end. One that comes to none is no refusal, also of functions alone.
+check() { # COPY LOG WORDS..
+    local status
     for _ in 1 2; do
-        (cd "$1" && "$kit/bin/rattle" check "${@:4}" --incremental "$2" "src/$([ -f src/main.rt ] && echo main || echo lib).rt") >"$3" 2>&1 || true
-        ! grep -q '^logic=' "$3" || return 0
+        status=0
+        (cd "$1" && "$kit/bin/rattle" check "${@:3}" "src/$([ -f src/main.rt ] && echo main || echo lib).rt") >"$2" 2>&1 || status=$?
+        [ "$status" -gt 1 ] || return 0
     done
+    sed -i 's/^only=/no verdict: &/' "$2"
 }
 
-# Each old: text stands once and becomes its new: text, as rt does it.
+# Each old: text stands once and becomes its new: text, as rt does it. Where an edit changes nothing but functions of src/, and its places
+# are proofs of functions, no definition sees it, and no other function's proof says more: then the words are printed that check these alone.
 apply() { # EDIT FOLDER
     python3 - "$1" "$2" <<'END'
-import sys
-path, old, texts = '', None, {}
+import re, sys
+item = re.compile(r'^ *(?:pub(?:\([a-z]+\))? )?(?:const )?(fn\b|const\b|static\b|struct\b|enum\b|type\b|trait\b|impl\b|mod\b|use\b|ghost\b|#)', re.M)
+path, old, texts, changed, places = '', None, {}, set(), []
 for line in open(sys.argv[1], encoding='utf-8').read().split('\n'):
-    if line.startswith('file: '):
+    if line.startswith('# expect: '):
+        places.append(re.match(r'proofs/([^+]+)/(?:Answers|Proof|Invariants)[.]antt ', line[10:]))
+    elif line.startswith('file: '):
         path = sys.argv[2] + '/' + line[6:].strip()
     elif line.startswith('old: '):
         old = line[5:]
@@ -59,18 +67,24 @@ for line in open(sys.argv[1], encoding='utf-8').read().split('\n'):
         text = texts.get(path) or open(path, encoding='utf-8').read()
         if text.count(old) != 1:
             sys.exit('%s has %d times: %s' % (path, text.count(old), old))
+        above = text[:text.index(old)]
+        changed.update(item.findall(above + old)[max(len(item.findall(above)) - 1, 0):] if '/src/' in path else ['text'])
         texts[path] = text.replace(old, line[4:].removeprefix(' '))
 for path, text in texts.items():
     open(path, 'w', encoding='utf-8').write(text)
+if changed == {'fn'} and all(places):
+    print(*sorted({'--only=' + it[1].replace('/', '::') for it in places}))
 END
 }
 
-# FILE DECLARATION of each error of a log that is the declaration's own, and of each goal without an answer that is not found proved; but
-# for errors of a kind.
+# FILE DECLARATION of each error of a log that is the declaration's own, and of each goal without an answer that is not found proved (of
+# which notes list 16, and the functions' lines all); but for errors of a kind.
 errors_of() { # LOG KINDS
     grep -E ': error: |^note: `[^`]*` of [^ ]* must prove: ' "$1" | grep -vE "$2" | sed -nE \
         -e 's#^(\./)?([^: ]*):[0-9]*:[0-9]*: error: `([^`]*)`: .*#\2 \3#p' \
         -e 's#^note: `([^`]*)` of (\./)?([^ ]*) must prove: .*#\3 \1#p'
+    sed -nE 's#^fn .*: no proof: expected answers in (\./)?([^ ;]*); `search` did not prove ([^;]*).*#\2 \3#p' "$1" | tr -d '`,' \
+        | while read -r file goals; do printf "$file %s\n" $goals; done
 }
 passed_on='was not admitted'
 no_fact='was not admitted|has no field|: record `[^`]*` \(nearest|has no `|is not in scope|is no name|that can be named from here'
@@ -84,7 +98,8 @@ judge() { # EDIT LOG
     if [ "$(wc -l <<<"$expects")" -gt 1 ] && [ "$(wc -l <<<"$expects")" -ne "$(grep -c '^file: ' "$1")" ]; then
         say "$1: not one 'file:' line for each '# expect:' line"
     fi
-    grep -q '^logic=not-proved' "$2" || { say "$1: no proof was refused: '$(grep -m 1 -E 'error|^logic=' "$2")'"; return; }
+    grep -E '^(logic=not-proved|only=)' "$2" | grep -qvE '^only=([0-9]+) proved=\1$' \
+        || { say "$1: no proof was refused: '$(grep -m 1 -E 'error|^(logic|only)=|^no verdict|^does not apply' "$2")'"; return; }
     errors=$(errors_of "$2" "$passed_on" || true)
     facts=$(errors_of "$2" "$no_fact" || true)
     firm=$(errors_of "$2" "$no_fact|$rewrite" || true)
@@ -109,40 +124,53 @@ folder_of() { # CRATE
     if [ -n "${EDITS:-}" ]; then echo "$EDITS/$1"; else echo "crates/$1/must-fail"; fi
 }
 
-# One edit, or none, in a copy of its own.
-try() { # CRATE [EDIT]
-    local label=${2:-} copy log
-    label=$(basename "${label:-seed.edit}" .edit)
-    copy=$room/$1/$label log=$logs/$1/$label.log
-    mkdir -p "$copy" "$logs/$1"
-    tar -c -C "crates/$1" --exclude=out --exclude=must-fail . | tar -x -C "$copy"
-    if [ -n "${2:-}" ]; then
-        apply "$2" "$copy" 2>"$log" || { echo "does not apply: $(tail -n 1 "$log")" >"$log"; return; }
-        if [ -d "$room/$1/kept" ]; then cp -r "$room/$1/kept" "$copy/kept"; else mkdir "$copy/kept"; fi
-        check "$copy" "$copy/kept" "$log" $(words_of "$1")
-        rm -rf "$copy"
+# Checks a copy with an edit: these functions, or the whole crate. Of those checked whole the first keeps what it proved, and each other
+# begins with a copy of that.
+try() { # CRATE LABEL [--only=FUNCTION..]
+    local copy=$room/$1/$2 log=$logs/$1/$2.log kept=$room/$1.kept
+    if [ $# -gt 2 ]; then
+        check "$copy" "$log" $(words_of "$1") "${@:3}"
     else
-        mkdir "$room/$1/kept"
-        check "$copy" "$room/$1/kept" "$log" $(words_of "$1")
+        if [ -d "$kept" ]; then cp -r "$kept" "$copy/kept"; kept=$copy/kept; else mkdir "$kept"; fi
+        check "$copy" "$log" $(words_of "$1") --incremental "$kept"
     fi
+    rm -rf "$copy"
 }
 
 # As many at once as there are processors: a check takes a token, and gives it back.
 mkfifo "$room/tokens"
 exec 9<>"$room/tokens"
 for ((i = 0; i < $(nproc); i++)); do echo >&9; done
-in_turn() { # CRATE [EDIT]
+in_turn() { # CRATE LABEL [--only=FUNCTION..]
     read -r -u9
     try "$@" || true
     echo >&9
 }
 
-# The edits of a crate, behind a check without one (one edit alone begins with nothing: that check would cost as much).
+# The edits of a crate, each in a copy of its own. Of those checked whole the smallest is first: it leaves most proved. A check without an
+# edit to begin with would cost more than it saves.
 each_edit() { # CRATE
-    local edits=("$(folder_of "$1")"/*.edit) edit
-    [ "${#edits[@]}" -eq 1 ] || in_turn "$1"
-    for edit in "${edits[@]}"; do in_turn "$1" "$edit" & done
-    wait
+    local edits whole=() edit label log functions
+    mapfile -t edits < <(ls -rS "$(folder_of "$1")"/*.edit)
+    for edit in "${edits[@]}"; do
+        label=$(basename "$edit" .edit)
+        log=$logs/$1/$label.log
+        mkdir -p "$room/$1/$label" "$logs/$1"
+        tar -c -C "crates/$1" --exclude=out --exclude=must-fail . | tar -x -C "$room/$1/$label"
+        if ! functions=$(apply "$edit" "$room/$1/$label" 2>"$log"); then
+            echo "does not apply: $(tail -n 1 "$log")" >"$log"
+        elif [ -n "$functions" ]; then
+            in_turn "$1" "$label" $functions &
+        else
+            whole+=("$label")
+        fi
+    done
+    [ "${#whole[@]}" -gt 0 ] || return 0
+    {
+        in_turn "$1" "${whole[0]}"
+        for label in "${whole[@]:1}"; do in_turn "$1" "$label" & done
+        wait
+    } &
 }
 
 logs=${LOGS:-$room/logs}
@@ -153,11 +181,11 @@ done
 # The largest crate first.
 size_of() { cat "crates/$1"/src/*.rt "crates/$1"/{specs,proofs}/*.antt 2>/dev/null | wc -c; }
 for crate in $(for crate in "${crates[@]}"; do echo "$(size_of "$crate") $crate"; done | sort -rn | cut -d ' ' -f 2); do
-    each_edit "$crate" &
+    each_edit "$crate"
 done
 wait
 for crate in "${crates[@]}"; do
-    [ ! -e "$logs/$crate/seed.log" ] || grep -q '^logic=proved' "$logs/$crate/seed.log" || { say "$crate is not proved as it stands: '$(grep -m 1 error "$logs/$crate/seed.log")'"; continue; }
+    [ -f "crates/$crate/src/main.rt" ] || [ -d "crates/$crate/out/rlib/$crate.rlib" ] || say "$crate is not proved as it stands: rt ci left no library of it"
     for edit in "$(folder_of "$crate")"/*.edit; do
         judge "$edit" "$logs/$crate/$(basename "$edit" .edit).log"
     done
