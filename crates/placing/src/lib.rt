@@ -19,7 +19,8 @@ pub fn open_place(
     identity: RaftReplicaIdentity,
 )
     requires { Opens t.old store.old p }
-    ensures { (t.new ≡ opened t.old p (empty_header identity)) × (store.new ≡ opened_store store.old p t.old.held) }
+    ensures state { t.new ≡ opened t.old p (empty_header identity) }
+    ensures store { store.new ≡ opened_store store.old p t.old.held }
 {
     let held = t.held;
     store::open_block(store, p, held);
