@@ -11,44 +11,47 @@ mod text;
 mod trying;
 
 use recovery::observing;
-use std::io;
+use std::process::ExitCode;
 use storage::RecoveredRaftStorage;
-use trying::Trial;
+use text::Lines;
 
-// How many records are taken of the first `count` of 256; there are no more.
+// How many records are taken of the first `count` of 256 of no Raft kind, with rising LSNs; there are no more.
 fn taken_of(count: usize) -> usize {
     let mut store = [0u8; 32768];
     let s = RecoveredRaftStorage::fresh();
-    let all = records::foreign_records();
+    let mut all = [records::record(0, None); 256];
+    for i in 0..256 {
+        all[i] = records::record(i as u64, None);
+    }
     observing::observe_records(s, &all[..count.min(256)], b"", &mut store).taken
 }
 
-fn chunk_sizes(rt: &impl Print) -> io::Result<()> {
+// A line for each count.
+fn chunk_sizes(out: &mut Lines) {
     for count in [0, 1, 255, 256, 257, usize::MAX] {
-        println!(rt; "chunk {count} taken {}", taken_of(count))?;
+        text::put(out, "chunk ");
+        text::put_number(out, count as u64);
+        text::put(out, " taken ");
+        text::put_number(out, taken_of(count) as u64);
+        text::put(out, "\n");
     }
-    Ok(())
 }
 
 // A small state with two replicas, and the odd and broken ones made from it.
-fn states_by_hand(rt: &impl Print, lent: &[u8]) -> io::Result<()> {
+fn states_by_hand(out: &mut Lines, lent: &[u8]) {
     let mut store = [0u8; 32768];
     let s = RecoveredRaftStorage::fresh();
     let done = observing::observe_records(s, &records::two_replicas(), lent, &mut store);
-    let from = Trial {
-        rt,
-        state: done.state,
-        store: &store,
-        second: false,
-    };
-    odd::all(&from)?;
-    broken::all(&from)
+    odd::all(out, &done.state, &store);
+    broken::all(out, &done.state, &store);
 }
 
-fn main(rt: HostRuntime) -> io::Result<()> {
-    chunk_sizes(&rt)?;
+fn main(rt: HostRuntime) -> ExitCode {
+    let mut out = Lines::new();
+    chunk_sizes(&mut out);
     states_by_hand(
-        &rt,
+        &mut out,
         b"0123456789ABCDEFGHIJKLMNOPQRSTUVWXYZabcdefghijklmnopqrstuvwxyz-+*/.,:;!?",
-    )
+    );
+    streams::end(rt, streams::write(&mut streams::stdout(rt), out.as_slice()))
 }

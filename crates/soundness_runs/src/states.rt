@@ -1,60 +1,38 @@
-// States made by hand: a state with one thing in it changed.
+// States made by hand, and what is changed in them.
 ghost use Rattle.std.specs.Prelude.{◌<◌};
 
 use crate::records;
-use codec::{ConfChangeKind, HardState};
+use codec::ConfChangeKind;
 use frontier::RaftProgress;
 use ids::{Lsn, ReplicaId};
 use storage::{RecoveredRaftStorage, Scan};
 use view::{EntryPayload, Header, RecoveredRaftLogEntry};
 
-pub fn with_head(s: RecoveredRaftStorage, p: usize, h: Header) -> RecoveredRaftStorage
+pub fn with_head(s: &RecoveredRaftStorage, p: usize, h: Header) -> RecoveredRaftStorage
     requires { p < 8 }
 {
-    let mut t = s;
+    let mut t = *s;
     t.heads[p] = h;
     t
 }
 
 pub fn with_entry(
-    s: RecoveredRaftStorage,
+    s: &RecoveredRaftStorage,
     at: usize,
     e: RecoveredRaftLogEntry,
 ) -> RecoveredRaftStorage
     requires { at < 512 }
 {
-    let mut t = s;
+    let mut t = *s;
     t.entries[at] = e;
     t
 }
 
-// So many records were scanned, the last at LSN 10.
-pub fn with_scanned(s: RecoveredRaftStorage, records: u64) -> RecoveredRaftStorage {
-    RecoveredRaftStorage {
-        scan: Scan {
-            scanned_records: records,
-            last_scanned_lsn: Some(Lsn(10)),
-        },
-        ..s
-    }
-}
-
-pub fn with_boundary(h: Header, index: u64, term: u64) -> Header {
-    Header {
-        snapshot_index: index,
-        snapshot_term: term,
-        ..with_progress(h, index, term, index)
-    }
-}
-
-pub fn with_progress(h: Header, index: u64, term: u64, applied: u64) -> Header {
-    Header {
-        progress: RaftProgress {
-            truncated_through_index: index,
-            truncated_through_term: term,
-            applied_index: applied,
-        },
-        ..h
+pub fn progress(index: u64, term: u64, applied: u64) -> RaftProgress {
+    RaftProgress {
+        truncated_through_index: index,
+        truncated_through_term: term,
+        applied_index: applied,
     }
 }
 
@@ -66,18 +44,6 @@ pub fn with_lsns(h: Header, lsn: u64) -> Header {
         snapshot_pointer_lsn: Some(Lsn(lsn)),
         ..h
     }
-}
-
-// A hard state that votes for replica zero.
-pub fn with_zero_vote(h: Header) -> Header {
-    h.with_hard_state(
-        HardState {
-            current_term: 1,
-            voted_for: Some(ReplicaId(0)),
-            commit: 1,
-        },
-        Lsn(6),
-    )
 }
 
 pub fn entry(term: u64, lsn: u64, len: usize) -> RecoveredRaftLogEntry {
@@ -110,9 +76,9 @@ pub fn bare() -> RecoveredRaftStorage {
     s
 }
 
-// The bare state, 7 scanned, whose second replica has a boundary and holds `len` entries without bytes.
+// The bare state, 7 scanned, the last at LSN 10, whose second replica has a boundary and holds `len` entries without bytes.
 pub fn bounded(index: u64, term: u64, len: usize) -> RecoveredRaftStorage {
-    let mut s = with_scanned(bare(), 7);
+    let mut s = bare();
     let p = records::pointer(records::identity(2, 3), index, term);
     s.heads[1] = Header {
         len,
@@ -120,5 +86,9 @@ pub fn bounded(index: u64, term: u64, len: usize) -> RecoveredRaftStorage {
     };
     s.entries[64] = entry(1, 10, 0);
     s.entries[65] = entry(1, 10, 0);
+    s.scan = Scan {
+        scanned_records: 7,
+        last_scanned_lsn: Some(Lsn(10)),
+    };
     s
 }

@@ -1,153 +1,120 @@
 // A state made by hand is tried with a record of each kind, finished, asked to prepare a batch and read, each time as it stands, and
 // the answers are printed.
+ghost use Rattle.std.specs.Prelude.{◌<◌, ◌≤◌, length};
+
+use crate::text::Lines;
 use crate::{records, text};
-use batches::RaftPersistenceBatch;
-use codec::RaftWalRecord;
-use ids::{Lsn, Refusal};
+use batches::{BatchEntry, RaftPersistenceBatch};
+use codec::{DurableRaftEntryPayload, RaftWalRecord};
 use recovery::observing;
-use replay::Observation;
-use std::io;
 use storage::RecoveredRaftStorage;
 use view::Header;
 
-// The answer to a record, and whether state and store stayed as they were.
-#[derive(Clone, Copy, Debug, PartialEq, Eq)]
-struct Observed {
-    answer: Result<Observation, Refusal>,
-    kept: bool,
-}
-
-// All answers, whether state and store stayed as they were each time, and whether they are sound.
-#[derive(Clone, Copy, Debug, PartialEq, Eq)]
-struct Tried {
-    foreign: Observed,
-    entry: Observed,
-    hard_state: Observed,
-    pointer: Observed,
-    finished: Result<(), Refusal>,
-    prepared: Result<(), Refusal>,
-    minimum: Result<Option<Lsn>, Refusal>,
-    kept: bool,
-    sound: bool,
-}
-
-// A record at the last LSN, on a copy of the store, of at most 32,768 bytes.
-fn try_record(s: RecoveredRaftStorage, store: &[u8], body: Option<RaftWalRecord>) -> Observed {
-    let mut copy = [0u8; 32768];
-    let n = store.len().min(32768);
-    copy[..n].copy_from_slice(&store[..n]);
+// The answer to a record at the last LSN, on a copy of the store, and whether state and store stayed as they were.
+fn try_record(
+    out: &mut Lines,
+    asked: &str,
+    refused: &str,
+    s: &RecoveredRaftStorage,
+    store: &[u8],
+    body: Option<RaftWalRecord>,
+) -> bool
+    requires { length store.now ≤ 32768 }
+{
+    let mut bytes = [0u8; 32768];
+    let copy = &mut bytes[..store.len()];
+    copy.copy_from_slice(store);
     let r = records::record(u64::MAX, body);
-    let done = observing::observe_record(s, r, records::lent(), &mut copy[..n]);
-    Observed {
-        answer: done.answer,
-        kept: done.state == s && copy[..n] == store[..n],
+    let done = observing::observe_record(*s, r, &records::LENT, copy);
+    let kept = done.state == *s && &*copy == store;
+    text::observed(out, asked, refused, &done.answer);
+    kept
+}
+
+// What the replica with this header may have next, in term 9: the entry behind its last one, or at 2^64 - 1.
+fn next_entry(h: Header) -> BatchEntry {
+    BatchEntry {
+        index: h.last().saturating_add(1),
+        term: 9,
+        payload: DurableRaftEntryPayload::Normal { place: 0, len: 7 },
     }
 }
 
-// A batch of the next entry and the next hard state.
-fn try_batch(s: RecoveredRaftStorage, store: &[u8], h: Header) -> Result<(), Refusal> {
-    let entries = [records::next_entry(h)];
+// The answers to records, with `refused` in front of the number of a refusal, and whether state and store stayed as they were: to a
+// foreign one, the next entry, a hard state that commits what the view does, and a pointer at that entry's index.
+fn try_records(
+    out: &mut Lines,
+    refused: &str,
+    s: &RecoveredRaftStorage,
+    store: &[u8],
+    h: Header,
+) -> bool
+    requires { length store.now ≤ 32768 }
+{
+    let next = next_entry(h);
+    let entry = RaftWalRecord::Entry(next.record(h.identity));
+    let vote = records::hard_state(h.identity, 9, 2, h.committed_index);
+    let at = records::pointer(h.identity, next.index, 9);
+    let foreign = try_record(out, " foreign ", refused, s, store, None);
+    let entry = try_record(out, " entry ", refused, s, store, Some(entry));
+    let vote = Some(RaftWalRecord::HardState(vote));
+    let hard_state = try_record(out, " hard-state ", refused, s, store, vote);
+    let at = Some(RaftWalRecord::SnapshotPointer(at));
+    let pointer = try_record(out, " pointer ", refused, s, store, at);
+    foreign && entry && hard_state && pointer
+}
+
+// The answers to finishing, to a batch of the next entry and that hard state, and to a reading, and whether finishing left the state as
+// it was.
+fn try_calls(
+    out: &mut Lines,
+    refused: &str,
+    s: &RecoveredRaftStorage,
+    store: &[u8],
+    h: Header,
+) -> bool {
+    let finished = finishing::finish(*s, store);
+    text::answer(out, " finish ", "finished", refused, &finished.answer);
+    let vote = records::hard_state(h.identity, 9, 2, h.committed_index);
     let batch = RaftPersistenceBatch {
         snapshot: None,
-        entries: &entries,
-        hard_state: Some(records::next_hard_state(h)),
+        entries: &[next_entry(h)],
+        hard_state: Some(vote.hard_state),
     };
-    persistence::prepare_batch(s, store, h.identity, batch, records::lent())?;
-    Ok(())
-}
-
-// The records, the batch and the reading are of the replica with this header.
-fn try_all(s: RecoveredRaftStorage, store: &[u8], h: Header) -> Tried {
-    let foreign = try_record(s, store, None);
-    let entry = try_record(s, store, Some(records::next_entry_record(h)));
-    let hard_state = try_record(s, store, Some(records::next_hard_state_record(h)));
-    let pointer = try_record(s, store, Some(records::next_pointer_record(h)));
-    let finished = finishing::finish(s, store);
-    let all_kept = foreign.kept && entry.kept && hard_state.kept && pointer.kept;
-    Tried {
-        foreign,
-        entry,
-        hard_state,
-        pointer,
-        finished: finished.answer,
-        prepared: try_batch(s, store, h),
-        minimum: readers::minimum_recovery_lsn(s, store, h.identity),
-        kept: all_kept && finished.state == s,
-        sound: soundness::is_sound(&s, store),
+    let prepared = persistence::prepare_batch(*s, store, h.identity, batch, &records::LENT);
+    text::answer(out, " batch ", "prepared", refused, &prepared);
+    let least = readers::minimum_recovery_lsn(*s, store, h.identity);
+    match least {
+        Ok(Some(lsn)) => {
+            text::put(out, " minimum ");
+            text::put_number(out, lsn.0);
+        }
+        _ => text::answer(out, " minimum ", "none", refused, &least),
     }
+    finished.state == *s
 }
 
-fn minimum(
-    rt: &impl Print,
-    refused: &str,
-    answer: &Result<Option<Lsn>, Refusal>,
-) -> io::Result<()> {
-    if let Ok(Some(least)) = answer {
-        return print!(rt; " minimum {}", least.0);
-    }
-    text::answer(rt, "minimum", "none", refused, answer)
+// A state that has to be refused by 1.
+pub fn broken(out: &mut Lines, name: &str, s: &RecoveredRaftStorage, store: &[u8])
+    requires { length store.now ≤ 32768 }
+{
+    text::put(out, "broken ");
+    text::put(out, name);
+    let unchanged = try_records(out, "", s, store, s.heads[0]);
+    let kept = try_calls(out, "", s, store, s.heads[0]) && unchanged;
+    let sound = soundness::is_sound(s, store);
+    text::put(out, if kept { " kept yes" } else { " kept no" });
+    text::put_sound(out, sound);
 }
 
-// The answers, with `refused` in front of the number of a refusal.
-fn answers(rt: &impl Print, refused: &str, t: Tried) -> io::Result<()> {
-    text::observed(rt, "foreign", refused, &t.foreign.answer)?;
-    text::observed(rt, "entry", refused, &t.entry.answer)?;
-    text::observed(rt, "hard-state", refused, &t.hard_state.answer)?;
-    text::observed(rt, "pointer", refused, &t.pointer.answer)?;
-    text::answer(rt, "finish", "finished", refused, &t.finished)?;
-    text::answer(rt, "batch", "prepared", refused, &t.prepared)?;
-    minimum(rt, refused, &t.minimum)
-}
-
-// A state that has to be refused by 1, with a store of any length.
-pub fn broken<const N: usize>(
-    rt: &impl Print,
-    name: &str,
-    s: RecoveredRaftStorage,
-    store: &[u8; N],
-) -> io::Result<()> {
-    let t = try_all(s, store, s.heads[0]);
-    print!(rt; "broken {name}")?;
-    answers(rt, "", t)?;
-    println!(rt;
-        " kept {} sound {}",
-        text::yes_or_no(t.kept),
-        text::yes_or_no(t.sound)
-    )
-}
-
-// A state that is sound: of what is refused the line says so.
-fn odd<const N: usize>(
-    rt: &impl Print,
-    name: &str,
-    s: RecoveredRaftStorage,
-    store: &[u8; N],
-    h: Header,
-) -> io::Result<()> {
-    let t = try_all(s, store, h);
-    print!(rt; "odd {name}")?;
-    answers(rt, "refused ", t)?;
-    println!(rt; " sound {}", text::yes_or_no(t.sound))
-}
-
-// Where the lines go, the state that others are made from, the store beside it, and whether the second replica is asked for.
-#[derive(Drop)]
-pub struct Trial<'a, P: Print> {
-    pub rt: &'a P,
-    pub state: RecoveredRaftStorage,
-    pub store: &'a [u8; 32768],
-    pub second: bool,
-}
-
-impl<'a, P: Print> Trial<'a, P> {
-    // A state that has to be refused by 1.
-    pub fn broken(&self, name: &str, s: RecoveredRaftStorage) -> io::Result<()> {
-        broken(self.rt, name, s, self.store)
-    }
-
-    // A state that is sound.
-    pub fn odd(&self, name: &str, s: RecoveredRaftStorage) -> io::Result<()> {
-        let h = if self.second { s.heads[1] } else { s.heads[0] };
-        odd(self.rt, name, s, self.store, h)
-    }
+// A state that is sound, whose replica at place p is asked: of what is refused the line says so.
+pub fn odd(out: &mut Lines, name: &str, s: &RecoveredRaftStorage, store: &[u8], p: usize)
+    requires { (p < 8) × (length store.now ≤ 32768) }
+{
+    text::put(out, "odd ");
+    text::put(out, name);
+    try_records(out, "refused ", s, store, s.heads[p]);
+    try_calls(out, "refused ", s, store, s.heads[p]);
+    let sound = soundness::is_sound(s, store);
+    text::put_sound(out, sound);
 }
