@@ -20,8 +20,10 @@ pub struct Scan {
     pub last_scanned_lsn: Option<Lsn>,
 }
 
-// The replicas held, in places that ascend by identity: ordered places in arrays, by document 01. Entry place q of replica place p is entries[64 * p + q]; its command's
-// bytes are store[4096 * p + 64 * q ..].
+// The replicas held, ordered places in arrays (document 01). Entry place q of replica place p is entries[64 * p + q]; its command's bytes
+// are store[4096 * p + 64 * q ..], and 0 behind them. Where it is sound: the first `held` headers, at most 8, ascend strictly by identity,
+// and no part of one is 0; no kept LSN exceeds scan's, and none is kept where that is none; fewer than 2^64 - 1 records were scanned;
+// each byte of the store that is no held command's is 0. What stands in the other places says nothing.
 #[derive(Clone, Copy, Debug, PartialEq, Eq)]
 pub struct RecoveredRaftStorage {
     pub heads: [Header; 8],

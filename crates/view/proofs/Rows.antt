@@ -128,4 +128,3 @@ module _ (h : Header) (es : List RecoveredRaftLogEntry) (cs : List ℕ) (f : Fit
     pub pointer_rows_lem : (i : Identity) → D.rows i (pointer (pointer_of p)) log ≡ pointer_rows_of i h p held
     unfolding D.rows
     pointer_rows_lem i = rw (install_rows_lem, kept_pointer_lem i)
-

@@ -44,7 +44,10 @@ pub struct RecoveredRaftLogEntry {
     pub payload: EntryPayload,
 }
 
-// What is kept for a replica beside its entries: `len` of these are held.
+// What is kept for a replica beside its entries: `len` of these are held, at most 64. Where it is sound (document 01): snapshot_index and
+// snapshot_term are those of `snapshot`, and 0 without one, and both are 0 or neither; progress is snapshot_index, snapshot_term,
+// snapshot_index; each held entry has an index, so snapshot_index + len is at most 2^64 - 1, or snapshot_index is that and len at most 1;
+// no kept vote is 0.
 #[derive(Clone, Copy, Debug, PartialEq, Eq)]
 pub struct Header {
     pub identity: RaftReplicaIdentity,

@@ -28,8 +28,7 @@ overflow_add-done c = rw c.loop-r.invariant.0 (search rules)
 pub loop-r-preserved : goal.loop-r-preserved
 loop-r-preserved c =
     let a = c.args in
-    let l = c.loop-r in
-    (
+    let l = c.loop-r in (
       omega (arith, l.invariant.0),
       chunk_takes a.state a.store.now a.records.now a.lent.now l.done.state l.store l.done.answer l.r-index l.invariant.1 c.loop-r-test.true _ _ _ _ c.observe_next-done.ensures.fits c.observe_next-done.ensures.model c.if-is_err.ensures.value,
     )
