@@ -266,7 +266,7 @@ impl<'a, 's> SoundStorage<'a, 's> {
     {
         let own = self.own(identity);
         let Some(q) = own.head.place_of(index) else {
-            return &[];
+            return &self.store[..0];
         };
         let kept = self.kept_at(own.place, q);
         view::command(self.store, 64 * own.place + q, kept.payload)
@@ -457,6 +457,6 @@ pub fn command(
 {
     match SoundStorage::new(&state, store) {
         Ok(sound) => sound.command(identity, index),
-        Err(_) => &[],
+        Err(_) => &store[..0],
     }
 }
