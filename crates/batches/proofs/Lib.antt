@@ -1,3 +1,4 @@
 pub mod Entries
+pub mod Form
 pub mod Joins
 pub mod Rows
