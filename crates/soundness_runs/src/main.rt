@@ -15,25 +15,33 @@ use std::process::ExitCode;
 use storage::RecoveredRaftStorage;
 use text::Lines;
 
-// How many records are taken of the first `count` of 256 of no Raft kind, with rising LSNs; there are no more.
+// How many records are taken of a list of `count`, at most 300, of no Raft kind, with rising LSNs.
 fn taken_of(count: usize) -> usize {
     let mut store = [0u8; 32768];
     let s = RecoveredRaftStorage::fresh();
-    let mut all = [records::record(0, None); 256];
-    for i in 0..256 {
+    let mut all = [records::record(0, None); 300];
+    for i in 0..300 {
         all[i] = records::record(i as u64, None);
     }
-    observing::observe_records(s, &all[..count.min(256)], b"", &mut store).taken
+    observing::observe_records(s, &all[..count.min(300)], b"", &mut store).taken
 }
 
-// A line for each count.
+// A line: what the list is called, its count, and how many records of `given` are taken.
+fn put_taken(out: &mut Lines, list: &str, count: usize, given: usize) {
+    text::put(out, list);
+    text::put_number(out, count as u64);
+    text::put(out, " taken ");
+    text::put_number(out, taken_of(given) as u64);
+    text::put(out, "\n");
+}
+
+// A line for each count. A chunk is at most 256 records of those asked for, as journals are read; a list is taken whole.
 fn chunk_sizes(out: &mut Lines) {
     for count in [0, 1, 255, 256, 257, usize::MAX] {
-        text::put(out, "chunk ");
-        text::put_number(out, count as u64);
-        text::put(out, " taken ");
-        text::put_number(out, taken_of(count) as u64);
-        text::put(out, "\n");
+        put_taken(out, "chunk ", count, count.min(256));
+    }
+    for count in [257, 300] {
+        put_taken(out, "list ", count, count);
     }
 }
 
