@@ -159,7 +159,8 @@ fn put_scan(out: &mut Output<131072>, scan: Scan)
 // A whole state.
 #[tactic(auto, using(tables::proofs::Text::lines_step), unfolding(tables::specs::Model::lines_to, crate::specs::Model::state_in))]
 pub fn write_state(state: &RecoveredRaftStorage, store: &[u8], out: &mut Output<131072>)
-    ensures { out.new ≡ state_in state.now store.now }
+    ensures text { out.new ≡ state_in state.now store.now }
+    ensures short { length out.new ≤ 131072 }
 {
     out.clear();
     put_scan(out, state.scan);
