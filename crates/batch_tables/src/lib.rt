@@ -238,7 +238,8 @@ fn put_record<'a>(out: &mut Output<65536>, r: PreparedRecord, given: &Commands<'
 #[tactic(auto, using(tables::proofs::Text::lines_step), unfolding(tables::specs::Tables::row, tables::specs::Model::lines_to))]
 fn put_records<'a>(out: &mut Output<65536>, records: &[PreparedRecord], given: &Commands<'a>)
     requires { (out.old ≡ []) × (length records.now ≤ 34) }
-    ensures { out.new ≡ record_texts records.now given.now.commands given.now.lent }
+    ensures text { out.new ≡ record_texts records.now given.now.commands given.now.lent }
+    ensures short { length out.new ≤ 8704 }
 {
     for r in records {
         put_record(out, *r, given);
@@ -254,7 +255,8 @@ pub fn write_prepared(
     lent: &[u8],
     out: &mut Output<65536>,
 )
-    ensures { out.new ≡ prepared_text prepared.now (commands_in commands lens.now lent.now) lent.now }
+    ensures text { out.new ≡ prepared_text prepared.now (commands_in commands lens.now lent.now) lent.now }
+    ensures short { length out.new ≤ 65536 }
 {
     out.clear();
     let given = Commands {
@@ -270,7 +272,8 @@ pub fn write_prepared(
 
 // journal refused LSN NUMBER. Beside tables' write_refused: one word before the same two numbers, which as a parameter is no plainer.
 pub fn write_journal_refused(lsn: u64, number: u64, out: &mut Output<65536>)
-    ensures { out.new ≡ journal_refused lsn number }
+    ensures text { out.new ≡ journal_refused lsn number }
+    ensures short { length out.new ≤ 65536 }
 {
     out.clear();
     out.put(b"journal refused ");
@@ -306,7 +309,8 @@ fn put_command(out: &mut Output<65536>, bytes: &[u8])
 
 // shown INDEX log|batch [HEX], of the first 64 bytes: no kept command has more. A flag, as the line's definition has it.
 pub fn write_shown(index: u64, of_batch: bool, bytes: &[u8], out: &mut Output<65536>)
-    ensures { out.new ≡ shown_line index of_batch (take 64 bytes.now) }
+    ensures text { out.new ≡ shown_line index of_batch (take 64 bytes.now) }
+    ensures short { length out.new ≤ 65536 }
 {
     out.clear();
     out.put(b"shown ");
@@ -317,7 +321,8 @@ pub fn write_shown(index: u64, of_batch: bool, bytes: &[u8], out: &mut Output<65
 
 // minimum LSN, or minimum -
 pub fn write_minimum(lsn: Option<Lsn>, out: &mut Output<65536>)
-    ensures { out.new ≡ minimum_line (lsn_of lsn) }
+    ensures text { out.new ≡ minimum_line (lsn_of lsn) }
+    ensures short { length out.new ≤ 65536 }
 {
     out.clear();
     out.put(b"minimum ");

@@ -25,8 +25,8 @@ pub fn number_in(lsn: Option<Lsn>) -> Option<u64>
 }
 
 // A number, `-` for none, and the byte that ends it. Not Output's put_vote: a vote is no number, and ends in a space.
-pub fn put_maybe(out: &mut Output<131072>, n: Option<u64>, end: u8)
-    requires { length out.old + 21 ≤ 131072 }
+pub fn put_maybe<const N: usize>(out: &mut Output<N>, n: Option<u64>, end: u8)
+    requires { length out.old + 21 ≤ N }
     ensures text { out.new ≡ out.old ++ (maybeField n ++ end ∷ []) }
     ensures short { length out.new ≤ length out.old + 21 }
 {
@@ -37,8 +37,8 @@ pub fn put_maybe(out: &mut Output<131072>, n: Option<u64>, end: u8)
 }
 
 // A word with a space behind it, an LSN, and a space.
-fn put_named(out: &mut Output<131072>, word: &[u8], lsn: Option<Lsn>)
-    requires { (length word.now ≤ 12) × (length out.old + 33 ≤ 131072) }
+fn put_named<const N: usize>(out: &mut Output<N>, word: &[u8], lsn: Option<Lsn>)
+    requires { (length word.now ≤ 12) × (length out.old + 33 ≤ N) }
     ensures text { out.new ≡ out.old ++ (word.now ++ (maybeField (lsn_of lsn) ++ 32 ∷ [])) }
     ensures short { length out.new ≤ length out.old + 33 }
 {
@@ -48,8 +48,8 @@ fn put_named(out: &mut Output<131072>, word: &[u8], lsn: Option<Lsn>)
 
 // boundary INDEX TERM, zeros where there is none
 #[tactic(auto, unfolding(crate::specs::Model::spaced_all, tables::specs::Tables::decimal, tables::specs::Tables::digits_within))]
-fn put_boundary(out: &mut Output<131072>, boundary: Option<(u64, u64)>)
-    requires { length out.old + 51 ≤ 131072 }
+fn put_boundary<const N: usize>(out: &mut Output<N>, boundary: Option<(u64, u64)>)
+    requires { length out.old + 51 ≤ N }
     ensures text { out.new ≡ out.old ++ spaced_all (boundary_fields boundary) }
     ensures short { length out.new ≤ length out.old + 51 }
 {
@@ -64,8 +64,8 @@ fn put_boundary(out: &mut Output<131072>, boundary: Option<(u64, u64)>)
 }
 
 // progress INDEX TERM APPLIED
-fn put_progress(out: &mut Output<131072>, progress: RaftProgress)
-    requires { length out.old + 72 ≤ 131072 }
+fn put_progress<const N: usize>(out: &mut Output<N>, progress: RaftProgress)
+    requires { length out.old + 72 ≤ N }
     ensures text { out.new ≡ out.old ++ spaced_all (progress_fields (progress_of progress)) }
     ensures short { length out.new ≤ length out.old + 72 }
 {
@@ -76,8 +76,8 @@ fn put_progress(out: &mut Output<131072>, progress: RaftProgress)
 }
 
 // hard TERM VOTE COMMIT
-fn put_hard_state(out: &mut Output<131072>, kept: Option<HardState>)
-    requires { length out.old + 68 ≤ 131072 }
+fn put_hard_state<const N: usize>(out: &mut Output<N>, kept: Option<HardState>)
+    requires { length out.old + 68 ≤ N }
     ensures text { out.new ≡ out.old ++ spaced_all (kept_fields (maybe_hard_state_of kept)) }
     ensures short { length out.new ≤ length out.old + 68 }
 {
@@ -93,8 +93,8 @@ fn put_hard_state(out: &mut Output<131072>, kept: Option<HardState>)
 }
 
 // replica GROUP REPLICA
-fn put_owner(out: &mut Output<131072>, identity: RaftReplicaIdentity)
-    requires { length out.old + 50 ≤ 131072 }
+fn put_owner<const N: usize>(out: &mut Output<N>, identity: RaftReplicaIdentity)
+    requires { length out.old + 50 ≤ N }
     ensures text { out.new ≡ out.old ++ spaced_all (replica_word ∷ decimal (identity_of identity).group ∷ decimal (identity_of identity).replica ∷ []) }
     ensures short { length out.new ≤ length out.old + 50 }
 {
@@ -103,8 +103,8 @@ fn put_owner(out: &mut Output<131072>, identity: RaftReplicaIdentity)
 }
 
 // commit INDEX
-fn put_commit(out: &mut Output<131072>, commit: u64)
-    requires { length out.old + 28 ≤ 131072 }
+fn put_commit<const N: usize>(out: &mut Output<N>, commit: u64)
+    requires { length out.old + 28 ≤ N }
     ensures text { out.new ≡ out.old ++ spaced_all (commit_word ∷ decimal commit ∷ []) }
     ensures short { length out.new ≤ length out.old + 28 }
 {
@@ -113,8 +113,8 @@ fn put_commit(out: &mut Output<131072>, commit: u64)
 }
 
 // Whose replica it is, its boundary, its progress and the view's commit.
-fn put_position(out: &mut Output<131072>, h: Header, first: RecoveredRaftLogEntry)
-    requires { length out.old + 201 ≤ 131072 }
+fn put_position<const N: usize>(out: &mut Output<N>, h: Header, first: RecoveredRaftLogEntry)
+    requires { length out.old + 201 ≤ N }
     ensures text { out.new ≡ out.old ++ spaced_all (position_fields (line_in h first)) }
     ensures short { length out.new ≤ length out.old + 201 }
 {
@@ -125,8 +125,8 @@ fn put_position(out: &mut Output<131072>, h: Header, first: RecoveredRaftLogEntr
 }
 
 // The LSNs: of the hard state, of the pointer, the last replayed, and the least to recover from.
-fn put_lsns(out: &mut Output<131072>, h: Header, first: RecoveredRaftLogEntry)
-    requires { length out.old + 132 ≤ 131072 }
+fn put_lsns<const N: usize>(out: &mut Output<N>, h: Header, first: RecoveredRaftLogEntry)
+    requires { length out.old + 132 ≤ N }
     ensures text { out.new ≡ out.old ++ spaced_all (lsn_fields (line_in h first)) }
     ensures short { length out.new ≤ length out.old + 132 }
 {
@@ -137,8 +137,8 @@ fn put_lsns(out: &mut Output<131072>, h: Header, first: RecoveredRaftLogEntry)
 }
 
 // log COUNT FIRST LAST RETAINED, and the end of the line
-fn put_range(out: &mut Output<131072>, h: Header, first: RecoveredRaftLogEntry)
-    requires { length out.old + 88 ≤ 131072 }
+fn put_range<const N: usize>(out: &mut Output<N>, h: Header, first: RecoveredRaftLogEntry)
+    requires { length out.old + 88 ≤ N }
     ensures text { out.new ≡ out.old ++ row (range_fields (line_in h first)) }
     ensures short { length out.new ≤ length out.old + 88 }
 {
@@ -150,8 +150,8 @@ fn put_range(out: &mut Output<131072>, h: Header, first: RecoveredRaftLogEntry)
 }
 
 // A replica's line.
-pub fn put_line(out: &mut Output<131072>, h: Header, first: RecoveredRaftLogEntry)
-    requires { length out.old + 489 ≤ 131072 }
+pub fn put_line<const N: usize>(out: &mut Output<N>, h: Header, first: RecoveredRaftLogEntry)
+    requires { length out.old + 489 ≤ N }
     ensures text { out.new ≡ out.old ++ replica_line (line_in h first) }
     ensures short { length out.new ≤ length out.old + 489 }
 {

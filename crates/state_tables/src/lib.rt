@@ -18,8 +18,8 @@ use tables::Output;
 use view::{EntryPayload, RecoveredRaftLogEntry};
 
 // What a record was answered, and the end of the line.
-fn put_answer(out: &mut Output<217088>, answer: Result<Observation, Refusal>)
-    requires { length out.old + 32 ≤ 217088 }
+fn put_answer<const N: usize>(out: &mut Output<N>, answer: Result<Observation, Refusal>)
+    requires { length out.old + 32 ≤ N }
     ensures text { out.new ≡ out.old ++ row (answer_fields (answer_of answer)) }
     ensures short { length out.new ≤ length out.old + 32 }
 {
@@ -35,9 +35,13 @@ fn put_answer(out: &mut Output<217088>, answer: Result<Observation, Refusal>)
 }
 
 // A record's line. Where there is no room for the longest one, 53 bytes, nothing is written.
-pub fn write_step(lsn: u64, answer: Result<Observation, Refusal>, out: &mut Output<217088>)
-    ensures line { length out.old + 53 ≤ 217088 → out.new ≡ out.old ++ step_line lsn (answer_of answer) }
-    ensures full { 217088 < length out.old + 53 → out.new ≡ out.old }
+pub fn write_step<const N: usize>(
+    lsn: u64,
+    answer: Result<Observation, Refusal>,
+    out: &mut Output<N>,
+)
+    ensures line { length out.old + 53 ≤ N → out.new ≡ out.old ++ step_line lsn (answer_of answer) }
+    ensures full { N < length out.old + 53 → out.new ≡ out.old }
     ensures short { length out.new ≤ length out.old + 53 }
 {
     if out.room() < 53 {
@@ -159,7 +163,8 @@ fn put_scan(out: &mut Output<131072>, scan: Scan)
 // A whole state.
 #[tactic(auto, using(tables::proofs::Text::lines_step), unfolding(tables::specs::Model::lines_to, crate::specs::Model::state_in))]
 pub fn write_state(state: &RecoveredRaftStorage, store: &[u8], out: &mut Output<131072>)
-    ensures { out.new ≡ state_in state.now store.now }
+    ensures text { out.new ≡ state_in state.now store.now }
+    ensures short { length out.new ≤ 131072 }
 {
     out.clear();
     put_scan(out, state.scan);

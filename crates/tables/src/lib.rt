@@ -123,7 +123,8 @@ fn put_heads(out: &mut Output<65536>, heads: &[Header])
 // The tables of a state.
 #[tactic(auto, using(crate::proofs::Text::lines_step, crate::proofs::Law::head_lines_of), unfolding(crate::specs::Model::lines_to, crate::specs::Model::tables_of))]
 pub fn write_tables(state: RecoveredRaftStorage, out: &mut Output<65536>)
-    ensures { out.new ≡ tables_of state }
+    ensures text { out.new ≡ tables_of state }
+    ensures short { length out.new ≤ 65536 }
 {
     let held = state.held.min(8);
     out.clear();
@@ -136,7 +137,8 @@ pub fn write_tables(state: RecoveredRaftStorage, out: &mut Output<65536>)
 // `refused LSN NUMBER`
 #[tactic(auto, unfolding(crate::specs::Tables::row, crate::specs::Tables::refused_line))]
 pub fn write_refused(lsn: u64, number: u64, out: &mut Output<65536>)
-    ensures { out.new ≡ refused_line lsn number }
+    ensures text { out.new ≡ refused_line lsn number }
+    ensures short { length out.new ≤ 65536 }
 {
     out.clear();
     out.put(b"refused ");
@@ -147,7 +149,8 @@ pub fn write_refused(lsn: u64, number: u64, out: &mut Output<65536>)
 // `line K malformed`
 #[tactic(auto, unfolding(crate::specs::Tables::row, crate::specs::Tables::malformed_line))]
 pub fn write_malformed(line: u64, out: &mut Output<65536>)
-    ensures { out.new ≡ malformed_line line }
+    ensures text { out.new ≡ malformed_line line }
+    ensures short { length out.new ≤ 65536 }
 {
     out.clear();
     out.put(b"line ");

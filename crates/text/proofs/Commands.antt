@@ -1,16 +1,18 @@
 -- A command line: what one byte writes, and a line in two pieces.
 -- Assumes nothing.
-use mathlib.Core.Path.{◌≡◌, refl, ◌∙◌}
+use mathlib.Core.Path.{◌≡◌, refl, ap, ◌∙◌}
 use mathlib.Core.Bool.{Bool, true, false, not, ◌&&◌}
 use mathlib.Core.List.{List, [], ◌∷◌, ◌++◌}
 use Prim.Native.Nat.{ℕ, ◌+◌, ◌*◌, ◌/◌, ◌%◌, ◌<◌, ◌≤◌}
 use borrow.Author.Tests.{eq-eqb, ne_eqb, lt-ltb, le-ltb, le-leb, lt-leb}
 use lib.ListN.{length, set, length-set}
-use Rattle.std.specs.Prelude.{if◌then◌else◌}
+use Rattle.std.specs.Prelude.{if◌then◌else◌, None}
 use Rattle.definition.specs.Table.{◌=?◌, ◌<?◌, ◌≤?◌}
 use Rattle.text.specs.Text.{hex_digit, is_hex}
+use Rattle.text.specs.Line.{piece, taken}
 use Rattle.text.specs.Command.{pushed_command, pushed_out, fed_command, fed_out}
 use Rattle.text.specs.declared.command.Command.{Command}
+use Rattle.text.proofs.Lines.{piece_on}
 
 module _ (out : List ℕ) (at : ℕ) (c : Command) (b : ℕ) where
   pub no_digit : 15 < hex_digit b → out ≡ pushed_out out at c b
@@ -44,6 +46,14 @@ pub out_pieces : (out : List ℕ) (at : ℕ) (c : Command) (a b : List ℕ) → 
 unfolding fed_command fed_out
 out_pieces out at c [] b = refl
 out_pieces out at c (x ∷ a) b = out_pieces (pushed_out out at c x) at (pushed_command c x) a b
+
+-- where a call took no newline, the next one goes on with the same command line
+module _ (c : Command) (a b : List ℕ) (e : taken a ≡ None) where
+  pub command_on : fed_command (fed_command c (piece a)) (piece b) ≡ fed_command c (piece (a ++ b))
+  command_on = command_pieces c (piece a) (piece b) ∙ ap (fed_command c) (piece_on a b e)
+
+  pub out_on : (out : List ℕ) (at : ℕ) → fed_out (fed_out out at c (piece a)) at (fed_command c (piece a)) (piece b) ≡ fed_out out at c (piece (a ++ b))
+  out_on out at = out_pieces out at c (piece a) (piece b) ∙ ap (fed_out out at c) (piece_on a b e)
 
 pub length_out : (s out : List ℕ) (at : ℕ) (c : Command) → length (fed_out out at c s) ≡ length out
 unfolding fed_out pushed_out

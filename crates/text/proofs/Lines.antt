@@ -1,17 +1,19 @@
 -- A line up to its newline, and a line in two pieces.
 -- Assumes nothing.
-use mathlib.Core.Path.{◌≡◌, refl, ap}
+use mathlib.Core.Path.{◌≡◌, refl, sym, ap, ◌∙◌}
 use mathlib.Core.Bool.{Bool, true, false, not, cond}
 use mathlib.Core.List.{List, [], ◌∷◌, ◌++◌}
 use Prim.Native.Nat.{ℕ, suc, ◌+◌, ◌≤◌}
+use Prim.Native.Nat.compare
 use native.Mathlib.Omega.{arith}
-use borrow.Author.Tests.{ltb-false}
-use lib.ListN.{length, take, drop, drop_of_length-le}
+use borrow.Author.Tests.{lt-ltb, ltb-false}
+use lib.ListN.{length, take, drop, length-append, drop_of_length-le}
 use lib.Dec.{ltb}
-use Rattle.std.specs.Prelude.{if◌then◌else◌, None, Some, unwrap_or}
+use lib.Seq.{length-take-le}
+use Rattle.std.specs.Prelude.{if◌then◌else◌, None, Some, option_map, unwrap_or}
 use Rattle.std.specs.List.{position_or_len}
 use Rattle.definition.specs.Table.{◌=?◌}
-use Rattle.text.specs.Line.{pushed, fed, piece, has_newline, newline_at}
+use Rattle.text.specs.Line.{pushed, fed, piece, has_newline, newline_at, taken}
 use Rattle.text.specs.declared.line.Line.{Line}
 
 -- a line in two pieces is the whole
@@ -89,3 +91,52 @@ newline_append (x ∷ a) b e = go (x =? 10) e (newline_append a b)
         → (if y then true else has_newline (a ++ b)) ≡ has_newline b
     go true q r = absurd (let z : ◌≡◌ {A = ℕ} 0 1 = cc in omega arith)
     go false q r = r q
+
+-- ---- what a call answers
+
+-- the first newline is within the bytes where there is one
+newline_within : (s : List ℕ) → ltb (place s) (length s) ≡ has_newline s
+unfolding place has_newline
+newline_within [] = refl
+newline_within (b ∷ s) = go (b =? 10) (newline_within s)
+  where
+    go : (x : Bool) → ltb (place s) (length s) ≡ has_newline s → ltb (cond (not x) (1 + place s) 0) (suc (length s)) ≡ (if x then true else has_newline s)
+    go true r = lt-ltb 0 (suc (length s)) (omega arith)
+    go false r = let e : 1 + place s ≡ suc (place s) = omega arith in rw (e, compare.suc-suc) r
+
+-- it stands behind the piece
+length_piece : (s : List ℕ) → length (piece s) ≡ place s
+length_piece s = ap length (sym (piece_at s)) ∙ length-take-le (place s) s (place_within s)
+
+-- the bytes that it took: the piece and the newline, where there is one
+pub taken_is : (s : List ℕ) → taken s ≡ (if has_newline s then Some (length (piece s) + 1) else None)
+unfolding place
+taken_is s = rw (length_piece s, ← newline_within s) (go (ltb (place s) (length s)))
+  where
+    go : (x : Bool) → option_map (λ i. i + 1) (cond x (Some (place s)) None) ≡ (if x then Some (place s + 1) else None)
+    go true = refl
+    go false = refl
+
+pub no_newline : (s : List ℕ) → taken s ≡ None → has_newline s ≡ false
+no_newline s e = go (has_newline s) (sym (taken_is s) ∙ e)
+  where
+    go : (x : Bool) → (if x then Some (length (piece s) + 1) else None) ≡ None → x ≡ false
+    go true q = absurd (let z : ◌≡◌ {A = ℕ} 0 1 = cc in omega arith)
+    go false q = refl
+
+-- where it took no newline, the next call goes on with the same line
+module _ (a b : List ℕ) (e : taken a ≡ None) where
+  pub piece_on : piece a ++ piece b ≡ piece (a ++ b)
+  piece_on = let n = no_newline a e in rw (piece_all a n) (sym (piece_append a b n))
+
+  pub fed_on : (l : Line) → fed (fed l (piece a)) (piece b) ≡ fed l (piece (a ++ b))
+  fed_on l = fed_fed l (piece a) (piece b) ∙ ap (fed l) piece_on
+
+  pub taken_on : taken (a ++ b) ≡ option_map (λ n. length a + n) (taken b)
+  taken_on =
+      let n = no_newline a e in
+      rw (taken_is (a ++ b), taken_is b, newline_append a b n, piece_append a b n, length-append a (piece b)) (go (has_newline b))
+    where
+      go : (x : Bool) → (if x then Some (length a + length (piece b) + 1) else None) ≡ option_map (λ n. length a + n) (if x then Some (length (piece b) + 1) else None)
+      go true = let m : length a + length (piece b) + 1 ≡ length a + (length (piece b) + 1) = omega arith in ap Some m
+      go false = refl

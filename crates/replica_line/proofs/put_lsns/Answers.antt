@@ -6,5 +6,5 @@ use Rattle.replica_line.proofs.put_lsns.Goals as goal
 
 pub returns-clause-text : goal.returns-clause-text
 unfolding spaced_all
-returns-clause-text c =
+returns-clause-text g c =
     simp (c.put_named-4.ensures.text, c.put_named-3.ensures.text, c.put_named-2.ensures.text, c.put_named.ensures.text, c.minimum_of.ensures, append_assoc, append-nil)
