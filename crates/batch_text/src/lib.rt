@@ -6,9 +6,9 @@ ghost use Rattle.std.specs.Prelude.{◌≡◌, ◌<◌, [], ◌∷◌, ◌++◌}
 ghost use Rattle.batch_text.specs.Line.{finish_on, identity_on, snapshot_on, hard_state_on, entry_on, line_on};
 ghost use Rattle.batch_text.specs.Order.{no_batch, is_open, add_pointer, add_entry, add_hard_state, add_show, added};
 
-use arrayvec::ArrayVec;
 use batches::{BatchEntry, RaftPersistenceBatch};
 use codec::{HardState, RaftSnapshotPointerRecord};
+use fixed_vec::FixedVec;
 use ids::RaftReplicaIdentity;
 use text::line::Line;
 use text::record;
@@ -29,10 +29,10 @@ pub enum BatchLine {
 }
 
 // A batch as far as its lines were read, and how many lines `show` there were.
-#[derive(Drop)]
+#[derive(Clone, Copy, Debug, PartialEq, Eq)]
 pub struct Given {
     pub snapshot: Option<RaftSnapshotPointerRecord>,
-    pub entries: ArrayVec<BatchEntry, MAX_ENTRY_LINES>,
+    pub entries: FixedVec<BatchEntry, MAX_ENTRY_LINES>,
     pub hard_state: Option<HardState>,
     pub shows: usize,
 }
@@ -116,7 +116,7 @@ impl Given {
     {
         Given {
             snapshot: None,
-            entries: ArrayVec::new(),
+            entries: FixedVec::new(),
             hard_state: None,
             shows: 0,
         }

@@ -9,6 +9,7 @@ ghost use Rattle.ids.specs.Identity.{identity_of};
 ghost use Rattle.ids.specs.Refusal.{checked_of};
 ghost use Rattle.codec.specs.Records.{payload_of, hard_state_of, maybe_hard_state_of, pointer_record_of, maybe_pointer_of, entry_kind_of, field_rows, hard_state_kind_of, pointer_kind_of, kind_of, owner_of};
 
+use fixed_vec::Blank;
 use ids::{Lsn, RaftReplicaIdentity, Refusal, ReplicaId};
 
 pub const RAFT_LOG_ENTRY_RECORD_VERSION: u32 = 1;
@@ -104,6 +105,19 @@ pub enum RaftWalRecord {
 pub struct WalRecord {
     pub lsn: Lsn,
     pub body: Option<RaftWalRecord>,
+}
+
+impl Blank for WalRecord {
+    ghost use Rattle.std.specs.Prelude.{None};
+
+    ghost blank = { record { lsn = record { 0 = 0 }; body = None } };
+
+    fn blank() -> Self {
+        WalRecord {
+            lsn: Lsn::ZERO,
+            body: None,
+        }
+    }
 }
 
 // Whether a change of configuration names replica zero (3).

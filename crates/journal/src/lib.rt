@@ -9,8 +9,8 @@ ghost use Rattle.store.specs.Zeros.{zeros};
 ghost use Rattle.journal.specs.Recovered.{line_number, Follows};
 ghost use Rattle.arrayvec.specs.ArrayVec.{array_vec_len};
 
-use arrayvec::ArrayVec;
 use codec::WalRecord;
+use fixed_vec::FixedVec;
 use ids::{Lsn, Refusal};
 use input::Source;
 use recovery::observing;
@@ -34,9 +34,9 @@ pub struct Recovered {
 
 // The records that were read, and whether the line behind them cannot be read: a chunk that ends at such a line has records all the
 // same, so it is no Result.
-#[derive(Drop)]
+#[derive(Clone, Copy, Debug, PartialEq, Eq)]
 pub struct Chunk {
-    pub records: ArrayVec<WalRecord, 256>,
+    pub records: FixedVec<WalRecord, 256>,
     pub bad: bool,
 }
 
@@ -58,7 +58,7 @@ pub fn read_chunk(source: &mut Source, most: usize, lens: &[u8]) -> Chunk
     ensures within { array_vec_len result.records ≤ min most 256 }
     ensures whole { result.bad ≡ false → array_vec_len result.records ≡ min most 256 }
 {
-    let mut records = ArrayVec::new();
+    let mut records = FixedVec::new();
     for _ in 0..most.min(256) {
         let Some(r) = source.next_record(lens) else {
             return Chunk { records, bad: true };

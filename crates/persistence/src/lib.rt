@@ -7,12 +7,12 @@ ghost use Rattle.preview.specs.Preview.{Leaves};
 ghost use Rattle.persistence.specs.Tries.{Kept, ran_of, tried_on, TriedReached};
 ghost use Rattle.persistence.specs.Answer.{record_with, entry_records, records_in, PreparesBatch};
 
-use arrayvec::ArrayVec;
 use batches::{BatchEntry, RaftPersistenceBatch};
 use codec::{
     HardState, RAFT_STABLE_STATE_RECORD_VERSION, RaftHardStateRecord, RaftSnapshotPointerRecord,
     RaftWalRecord,
 };
+use fixed_vec::{Blank, FixedVec};
 use ids::{RaftReplicaIdentity, Refusal};
 use preview::Preview;
 use readers::{Own, SoundStorage};
@@ -27,8 +27,18 @@ pub struct PreparedRecord {
     pub body: Option<RaftWalRecord>,
 }
 
+impl Blank for PreparedRecord {
+    ghost use Rattle.std.specs.Prelude.{None};
+
+    ghost blank = { record { body = None } };
+
+    fn blank() -> Self {
+        PreparedRecord { body: None }
+    }
+}
+
 // The records of a batch that may be written, in order: pointer, entries, hard state.
-pub type PreparedBatch = ArrayVec<PreparedRecord, 34>;
+pub type PreparedBatch = FixedVec<PreparedRecord, 34>;
 
 // The entries of replica place p, copied.
 fn entries_at(state: RecoveredRaftStorage, p: usize) -> [RecoveredRaftLogEntry; 64]
@@ -90,7 +100,7 @@ fn records_of(identity: RaftReplicaIdentity, batch: RaftPersistenceBatch) -> Pre
     requires { length batch.entries.now ≤ 32 }
     ensures { result.items ≡ records_in identity batch.entry }
 {
-    let mut records = ArrayVec::new();
+    let mut records = FixedVec::new();
     if let Some(p) = batch.snapshot {
         records.push(record(RaftWalRecord::SnapshotPointer(p)));
     }
