@@ -1,4 +1,5 @@
 pub mod Text
 pub mod Line
+pub mod GivenLines
 pub mod Order
 pub mod Cases

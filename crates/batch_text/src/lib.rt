@@ -2,7 +2,7 @@
 // entries, at most one hard state, and the indices whose commands are to be shown.
 #![tactic(auto, unfolding(crate::specs::Line::finish_on, crate::specs::Line::identity_on, crate::specs::Line::line_on, crate::specs::Order::add_pointer, crate::specs::Order::add_entry, crate::specs::Order::add_hard_state, crate::specs::Order::add_show))]
 
-ghost use Rattle.std.specs.Prelude.{◌≡◌, ◌<◌, [], ◌∷◌, ◌++◌};
+ghost use Rattle.std.specs.Prelude.{◌≡◌, ◌<◌, ⊤, [], ◌∷◌, ◌++◌};
 ghost use Rattle.batch_text.specs.Line.{finish_on, identity_on, snapshot_on, hard_state_on, entry_on, line_on};
 ghost use Rattle.batch_text.specs.Order.{no_batch, is_open, add_pointer, add_entry, add_hard_state, add_show, added};
 
@@ -10,6 +10,8 @@ use batches::{BatchEntry, RaftPersistenceBatch};
 use codec::{HardState, RaftSnapshotPointerRecord};
 use fixed_vec::FixedVec;
 use ids::RaftReplicaIdentity;
+use std::alloc::AllocError;
+use std::marker::Model;
 use text::line::Line;
 use text::record;
 
@@ -28,14 +30,37 @@ pub enum BatchLine {
     Show(u64),
 }
 
-// A batch as far as its lines were read, and how many lines `show` there were.
-#[derive(Clone, Copy, Debug, PartialEq, Eq)]
+// A batch as far as its lines were read, and how many lines `show` there were. It has a model of its own, with the same fields, so that
+// a copy of it may stand beside it anywhere.
+#[derive(Debug, PartialEq, Eq)]
 pub struct Given {
     pub snapshot: Option<RaftSnapshotPointerRecord>,
     pub entries: FixedVec<BatchEntry, MAX_ENTRY_LINES>,
     pub hard_state: Option<HardState>,
     pub shows: usize,
 }
+
+impl Model for Given {
+    ghost use Rattle.batch_text.specs.GivenLines.{GivenLines};
+
+    ghost Value = { GivenLines };
+
+    ghost view = { λ g. record { snapshot = g.snapshot; entries = g.entries; hard_state = g.hard_state; shows = g.shows } };
+
+    ghost inverse = { λ v. record { snapshot = v.snapshot; entries = v.entries; hard_state = v.hard_state; shows = v.shows } };
+}
+
+impl Clone for Given {
+    ghost is_clone = { λ v w. w ≡ v };
+
+    ghost is_infallible = { λ _. ⊤ };
+
+    fn clone(&self) -> Result<Self, AllocError> {
+        Ok(*self)
+    }
+}
+
+impl Copy for Given {}
 
 // finish 0|1, and exactly these bytes
 pub fn finish_of(line: &Line) -> Option<bool>

@@ -1,1 +1,2 @@
 pub mod Recovered
+pub mod ReadRecords

@@ -4,7 +4,7 @@
 
 pub mod input;
 
-ghost use Rattle.std.specs.Prelude.{◌≡◌, ◌≤◌, ℕ, min, false, IfOk};
+ghost use Rattle.std.specs.Prelude.{◌≡◌, ◌≤◌, ℕ, ⊤, min, false, IfOk};
 ghost use Rattle.store.specs.Zeros.{zeros};
 ghost use Rattle.journal.specs.Recovered.{line_number, Follows};
 ghost use Rattle.arrayvec.specs.ArrayVec.{array_vec_len};
@@ -14,6 +14,8 @@ use fixed_vec::FixedVec;
 use ids::{Lsn, Refusal};
 use input::Source;
 use recovery::observing;
+use std::alloc::AllocError;
+use std::marker::Model;
 use storage::RecoveredRaftStorage;
 use text::command::Commands;
 use text::record;
@@ -33,12 +35,34 @@ pub struct Recovered {
 }
 
 // The records that were read, and whether the line behind them cannot be read: a chunk that ends at such a line has records all the
-// same, so it is no Result.
-#[derive(Clone, Copy, Debug, PartialEq, Eq)]
+// same, so it is no Result. It has a model of its own, with the same fields, so that a copy of it may stand beside it anywhere.
+#[derive(Debug, PartialEq, Eq)]
 pub struct Chunk {
     pub records: FixedVec<WalRecord, 256>,
     pub bad: bool,
 }
+
+impl Model for Chunk {
+    ghost use Rattle.journal.specs.ReadRecords.{ReadRecords};
+
+    ghost Value = { ReadRecords };
+
+    ghost view = { λ c. record { records = c.records; bad = c.bad } };
+
+    ghost inverse = { λ v. record { records = v.records; bad = v.bad } };
+}
+
+impl Clone for Chunk {
+    ghost is_clone = { λ v w. w ≡ v };
+
+    ghost is_infallible = { λ _. ⊤ };
+
+    fn clone(&self) -> Result<Self, AllocError> {
+        Ok(*self)
+    }
+}
+
+impl Copy for Chunk {}
 
 // So many commands, at most 256, up to a line that cannot be read. By number: its bytes, its length and the count go with it.
 fn read_commands(source: &mut Source, most: usize, commands: &mut Commands) {
