@@ -3,17 +3,19 @@
 use mathlib.Core.Path.{◌≡◌, refl, sym, ap, ◌∙◌}
 use mathlib.Core.Bool.{Bool, true, false, not, cond}
 use mathlib.Core.List.{List, [], ◌∷◌, ◌++◌}
-use Prim.Native.Nat.{ℕ, suc, ◌+◌, ◌≤◌}
+use Prim.Native.Nat.{ℕ, suc, ◌+◌, ◌-◌, ◌<◌, ◌≤◌}
 use Prim.Native.Nat.compare
+use native.Mathlib.Numerals.{add-one}
 use native.Mathlib.Omega.{arith}
-use borrow.Author.Tests.{lt-ltb, ltb-false}
-use lib.ListN.{length, take, drop, length-append, drop_of_length-le}
+use borrow.Author.Tests.{lt-ltb, ltb-false, eqb-true}
+use lib.ListN.{length, take, drop, length-drop, length-append, drop_of_length-le}
 use lib.Dec.{ltb}
-use lib.Seq.{length-take-le}
+use lib.Seq.{length-take-le, take_all}
 use Rattle.std.specs.Prelude.{if◌then◌else◌, None, Some, option_map, unwrap_or}
 use Rattle.std.specs.List.{position_or_len}
-use Rattle.definition.specs.Table.{◌=?◌}
-use Rattle.text.specs.Line.{pushed, fed, piece, has_newline, newline_at, taken}
+use Rattle.definition.specs.Table.{◌=?◌, ◌<?◌}
+use Rattle.text.specs.Field.{pushed_field, pushed_sum, word, fed_field, fed_sum}
+use Rattle.text.specs.Line.{closed, extended, extended_by, pushed, fed, piece, has_newline, newline_at, taken}
 use Rattle.text.specs.declared.line.Line.{Line}
 
 -- a line in two pieces is the whole
@@ -58,9 +60,84 @@ piece_at (b ∷ s) = go (b =? 10) (piece_at s)
 pub piece_is : (s : List ℕ) → take (unwrap_or (newline_at s) (length s)) s ≡ piece s
 piece_is s = rw (end_is s) (piece_at s)
 
+-- ---- a field at a time
+
+none_more : (l : Line) → extended_by l [] ≡ l
+unfolding fed_field fed_sum
+none_more l = go (l.count <? 10)
+  where
+    go : (x : Bool) → ◌≡◌ {A = Line} (record { fields = l.fields; count = l.count; field = l.field; sum = if x then l.sum else l.sum }) l
+    go true = refl
+    go false = refl
+
+one_more : (l : Line) (b : ℕ) (s : List ℕ) → extended_by (extended l b) s ≡ extended_by l (b ∷ s)
+unfolding extended fed_field fed_sum
+one_more l b s = go (l.count <? 10)
+  where
+    go : (x : Bool) → ◌≡◌ {A = Line} (record { fields = l.fields; count = l.count; field = fed_field (pushed_field l.field b) s; sum = if x then (if x then l.sum else pushed_sum l.sum b) else fed_sum (if x then l.sum else pushed_sum l.sum b) s })
+        (record { fields = l.fields; count = l.count; field = fed_field (pushed_field l.field b) s; sum = if x then l.sum else fed_sum (pushed_sum l.sum b) s })
+    go true = refl
+    go false = refl
+
+pub by_word : (l : Line) (s : List ℕ) → fed l s ≡ fed (extended_by l (word s)) (drop (length (word s)) s)
+unfolding fed word
+by_word l [] = sym (none_more l)
+by_word l (b ∷ s) = go (b =? 32) refl (λ m. by_word m s)
+  where
+    go : (x : Bool) → (b =? 32) ≡ x → ((m : Line) → fed m s ≡ fed (extended_by m (word s)) (drop (length (word s)) s))
+        → fed (if x then closed l else extended l b) s ≡ fed (extended_by l (if x then [] else b ∷ word s)) (drop (length (if x then [] else b ∷ word s)) (b ∷ s))
+    go true e r = rw (none_more l, e) refl
+    go false e r = r (extended l b) ∙ ap (λ (m : Line). fed m (drop (length (word s)) s)) (one_more l b (word s))
+
+pub word_within : (s : List ℕ) → length (word s) ≤ length s
+unfolding word
+word_within [] = omega arith
+word_within (b ∷ s) = go (b =? 32) (word_within s)
+  where
+    go : (x : Bool) → length (word s) ≤ length s → length (if x then [] else b ∷ word s) ≤ suc (length s)
+    go true r = omega arith
+    go false r = omega arith
+
+pub take_word : (s : List ℕ) → take (length (word s)) s ≡ word s
+unfolding word
+take_word [] = refl
+take_word (b ∷ s) = go (b =? 32) (take_word s)
+  where
+    go : (x : Bool) → take (length (word s)) s ≡ word s → take (length (if x then [] else b ∷ word s)) (b ∷ s) ≡ (if x then [] else b ∷ word s)
+    go true r = refl
+    go false r = ap (λ (t : List ℕ). b ∷ t) r
+
+-- a space stands behind it, where a byte does
+behind : (s : List ℕ) → length (word s) < length s → drop (length (word s)) s ≡ 32 ∷ drop (suc (length (word s))) s
+unfolding word
+behind [] h = absurd (omega arith)
+behind (b ∷ s) h = go (b =? 32) refl (behind s) h
+  where
+    go : (x : Bool) → (b =? 32) ≡ x → (length (word s) < length s → drop (length (word s)) s ≡ 32 ∷ drop (suc (length (word s))) s)
+        → length (if x then [] else b ∷ word s) < suc (length s)
+        → drop (length (if x then [] else b ∷ word s)) (b ∷ s) ≡ 32 ∷ drop (suc (length (if x then [] else b ∷ word s))) (b ∷ s)
+    go true e r h = ap (λ (n : ℕ). n ∷ s) (eqb-true b 32 e)
+    go false e r h = r (omega arith)
+
 -- no byte is left behind the last
 pub drop_end : (s : List ℕ) (i : ℕ) → length s ≤ i → drop i s ≡ []
 drop_end s i h = drop_of_length-le s h
+
+-- the walk: the first field, each next one behind its space, and the end
+pub first_word : (l : Line) (s : List ℕ) {m : Line} {n : ℕ} → m ≡ extended_by l (word s) → n ≡ length (word s) → fed l s ≡ fed m (drop n s)
+first_word l s em en = rw (em, en) (by_word l s)
+
+pub next_word : (l : Line) (s : List ℕ) (n : ℕ) {k m : Line} {t : List ℕ} {n' : ℕ} → n ≡ length (word s) → n < length s → t ≡ take (length s - (n + 1)) (drop (n + 1) s)
+    → k ≡ closed l → m ≡ extended_by k (word t) → n' ≡ length (word t) → fed l (drop n s) ≡ fed m (drop n' t)
+unfolding fed
+next_word l s n {k} {m} {t} en h et ek em en' =
+    let all : take (length s - (n + 1)) (drop (n + 1) s) ≡ drop (n + 1) s = take_all (length s - (n + 1)) (drop (n + 1) s) (omega (arith, length-drop (n + 1) s)) in
+    let d : drop n s ≡ 32 ∷ t = rw (et, all, en, add-one (length (word s))) (behind s (omega (arith, en))) in
+    rw (d, ← ek) (first_word k t em en')
+
+pub last_word : (l : Line) (s : List ℕ) (n : ℕ) → length s ≤ n → fed l (drop n s) ≡ l
+unfolding fed
+last_word l s n h = rw (drop_end s n h) refl
 
 -- bytes without a newline are all of the line, and it goes on behind them
 pub piece_all : (a : List ℕ) → has_newline a ≡ false → piece a ≡ a

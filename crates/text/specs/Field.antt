@@ -57,6 +57,11 @@ pushed_checksum len (Some x) b = option_map (shifted_checksum len x) (hex_of b)
 unfoldable pub pushed_sum : Sum → ℕ → Sum
 pushed_sum s b = record { len = counted 65 s.len; checksum = pushed_checksum s.len s.checksum b }
 
+-- up to the space or the end
+unfoldable pub word : List ℕ → List ℕ
+word [] = []
+word (b ∷ s) = if b =? 32 then [] else b ∷ word s
+
 -- all of s
 unfoldable pub fed_field : Field → List ℕ → Field
 fed_field f [] = f

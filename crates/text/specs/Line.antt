@@ -2,7 +2,7 @@
 -- Assumes nothing.
 use Rattle.std.specs.Prelude.{ℕ, ◌+◌, Bool, true, false, List, [], ◌∷◌, replicate, set, if◌then◌else◌, Option, option_map, position}
 use Rattle.definition.specs.Table.{◌=?◌, ◌<?◌}
-use Rattle.text.specs.Field.{blank_field, blank_sum, counted, pushed_field, pushed_sum}
+use Rattle.text.specs.Field.{blank_field, blank_sum, counted, pushed_field, pushed_sum, fed_field, fed_sum}
 use Rattle.text.specs.declared.line.Line.{Line}
 
 -- no byte yet
@@ -28,6 +28,11 @@ extended l b =
       field = pushed_field l.field b;
       sum = if l.count <? 10 then l.sum else pushed_sum l.sum b;
     }
+
+-- more bytes of the field
+abbrev pub extended_by : Line → List ℕ → Line
+extended_by l s =
+    record { fields = l.fields; count = l.count; field = fed_field l.field s; sum = if l.count <? 10 then l.sum else fed_sum l.sum s }
 
 -- one more byte of the line
 abbrev pub pushed : Line → ℕ → Line

@@ -1,8 +1,8 @@
 // One field of a line, byte by byte: what number and what word it is, and what checksum.
-#![tactic(auto, unfolding(crate::specs::Text::hex_digit, crate::specs::Field::pushed_field, crate::specs::Field::pushed_sum))]
+#![tactic(auto, using(crate::proofs::Lines::drop_end), unfolding(crate::specs::Text::hex_digit, crate::specs::Field::pushed_field, crate::specs::Field::pushed_sum, crate::specs::Field::word, crate::specs::Field::fed_field, crate::specs::Field::fed_sum))]
 
-ghost use Rattle.std.specs.Prelude.{◌≡◌, ◌<◌};
-ghost use Rattle.text.specs.Field.{hex_of, pushed_digit, pushed_field, shifted_checksum, pushed_sum, blank_field, blank_sum, number_on, version_on, word_field, vote_on, checksum_on};
+ghost use Rattle.std.specs.Prelude.{◌≡◌, ◌<◌, length};
+ghost use Rattle.text.specs.Field.{hex_of, pushed_digit, pushed_field, word, fed_field, shifted_checksum, pushed_sum, fed_sum, blank_field, blank_sum, number_on, version_on, word_field, vote_on, checksum_on};
 
 use codec::Checksum;
 use ids::ReplicaId;
@@ -67,6 +67,35 @@ impl Field {
         if let Some(n) = self.number {
             self.number = with_digit(n, b);
         }
+    }
+
+    // Reads on to the space or the end of the bytes: how many of them it took. Length and number stand beside the array while they
+    // are read, so that no byte waits for a write.
+    pub fn read(&mut self, bytes: &[u8]) -> usize
+        ensures field { self.new ≡ fed_field self.old (word bytes.now) }
+        ensures end { result ≡ length (word bytes.now) }
+    {
+        let mut len = self.len;
+        let mut number = self.number;
+        let mut taken = 0;
+        for &b in bytes {
+            if b == b' ' {
+                break;
+            }
+            if len < 16 {
+                self.word[len] = b;
+                len += 1;
+            } else {
+                len = 17;
+            }
+            if let Some(n) = number {
+                number = with_digit(n, b);
+            }
+            taken += 1;
+        }
+        self.len = len;
+        self.number = number;
+        taken
     }
 
     // The number that it is, up to 2^64 - 1.
@@ -148,6 +177,15 @@ impl Sum {
             _ => None,
         };
         self.len = self.len.saturating_add(1).min(65);
+    }
+
+    // More bytes.
+    pub fn read(&mut self, bytes: &[u8])
+        ensures { self.new ≡ fed_sum self.old bytes.now }
+    {
+        for &b in bytes {
+            self.push(b);
+        }
     }
 
     // The checksum that it is: 64 digits.

@@ -1,8 +1,9 @@
 // One line, in pieces of any size.
-#![tactic(auto, using(crate::proofs::Lines::end_within, crate::proofs::Lines::piece_is, crate::proofs::Lines::drop_end), unfolding(crate::specs::Line::closed, crate::specs::Line::extended, crate::specs::Line::fed))]
+#![tactic(auto, using(crate::proofs::Lines::end_within, crate::proofs::Lines::piece_is, crate::proofs::Lines::drop_end, crate::proofs::Lines::word_within, crate::proofs::Lines::take_word), unfolding(crate::specs::Line::closed))]
 
-ghost use Rattle.std.specs.Prelude.{◌≡◌};
-ghost use Rattle.text.specs.Line.{blank_line, closed, pushed, fed, piece, newline_at, taken};
+ghost use Rattle.std.specs.Prelude.{◌≡◌, length};
+ghost use Rattle.text.specs.Field.{word};
+ghost use Rattle.text.specs.Line.{blank_line, closed, extended_by, fed, piece, newline_at, taken};
 
 use crate::field::{Field, Sum};
 
@@ -54,18 +55,16 @@ impl Line {
         self.field = Field::blank();
     }
 
-    // One more byte.
-    fn push(&mut self, b: u8)
-        ensures { self.new ≡ pushed self.old b }
+    // Reads on to the space or the end of the bytes: how many of them it took.
+    fn extend(&mut self, bytes: &[u8]) -> usize
+        ensures line { self.new ≡ extended_by self.old (word bytes.now) }
+        ensures end { result ≡ length (word bytes.now) }
     {
-        if b == b' ' {
-            self.close();
-            return;
-        }
-        self.field.push(b);
+        let n = self.field.read(bytes);
         if 10 <= self.count {
-            self.sum.push(b);
+            self.sum.read(&bytes[..n]);
         }
+        n
     }
 
     // Reads on to the newline or the end of the bytes: how many of them it took with the newline, where one came.
@@ -74,8 +73,12 @@ impl Line {
         ensures end { result ≡ taken bytes.now }
     {
         let end = newline_at(bytes);
-        for &b in &bytes[..end.unwrap_or(bytes.len())] {
-            self.push(b);
+        let mut rest = &bytes[..end.unwrap_or(bytes.len())];
+        let mut n = self.extend(rest);
+        while n < rest.len() {
+            self.close();
+            rest = &rest[n + 1..];
+            n = self.extend(rest);
         }
         end.map(|i| i + 1)
     }
