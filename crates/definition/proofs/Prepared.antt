@@ -1,18 +1,19 @@
--- A preparation that passed, taken apart; and its records are the batch's: the pointer's, the entries', the hard state's.
+-- A preparation that passed, taken apart; its records are the batch's: the pointer's, the entries', the hard state's. And a batch of
+-- more than 32 entries is refused.
 -- Assumes nothing.
-use Prim.Native.Nat.{ℕ, ◌+◌, ◌≤◌}
+use Prim.Native.Nat.{ℕ, ◌+◌, ◌<◌, ◌≤◌}
 use mathlib.Core.Path.{◌≡◌, refl, sym, ap, ◌∙◌}
-use mathlib.Core.Bool.{true, false}
+use mathlib.Core.Bool.{Bool, true, false, true≢false}
 use mathlib.Core.List.{List, [], ◌∷◌, ◌++◌, append-nil, append_assoc}
 use native.Mathlib.Omega.{arith}
 use lib.ListN.{length}
-use borrow.Author.Tests.{ltb-false}
-use Rattle.std.specs.Prelude.{Option, None, Some, Result, Ok, Err}
-use Rattle.definition.specs.Table.{Row, first_of, or_zero}
+use borrow.Author.Tests.{lt-ltb, ltb-false}
+use Rattle.std.specs.Prelude.{if◌then◌else◌, Option, None, Some, Result, Ok, Err}
+use Rattle.definition.specs.Table.{◌=?◌, ◌<?◌, Row, ◌when◌, first_of, or_zero}
 use Rattle.definition.specs.Records.{Identity, HardState, entry, hard_state, pointer}
 use Rattle.definition.specs.Log.{Log, PointerRecord}
-use Rattle.definition.specs.Batch.{BatchEntry, Batch, Prepared, Preview, previewed, preview_entry, preview_pointer, preview_hard_state, hard_state_before_log_term, batch_rows, batch_pointer_rows, batch_entry_rows, batch_hard_state_rows, concluded, hardened, extended, pointed, prepare_on, prepare}
-use Rattle.definition.specs.Recovery.{replica_of, Recovery, sound}
+use Rattle.definition.specs.Batch.{BatchEntry, Batch, Prepared, Preview, previewed, preview_entry, preview_pointer, preview_hard_state, hard_state_before_log_term, batch_rows, batch_pointer_rows, batch_entry_rows, batch_hard_state_rows, concluded, hardened, extended, pointed, snapshot_without_hard_state, prepare_on, prepare}
+use Rattle.definition.specs.Recovery.{replica_of, Recovery, sound, ask}
 use Rattle.definition.proofs.Laws.{Clear, clear}
 use Rattle.definition.proofs.Store.{ask_sound, ask_unsound}
 
@@ -116,3 +117,34 @@ module _ (w : Recovery) (i : Identity) (b : Batch) where
   pub prepare_unsound : sound w ≡ false → prepare w i b ≡ Err 1
   unfolding prepare
   prepare_unsound e = rw (prepare, ask_unsound (replica_of i) w e)
+
+-- A batch of more than 32 entries is refused by 6, 7 or 43, whatever the entries are; by 1 where the state is not sound.
+over_number : Identity → ℕ
+over_number i = if i.group =? 0 then 6 else (if i.replica =? 0 then 7 else 43)
+
+over_first : (g r t : Bool) (rows : List Row) → t ≡ true → first_of ((6 when g) ∷ (7 when r) ∷ (43 when t) ∷ rows) ≡ Some (if g then 6 else (if r then 7 else 43))
+over_first true r t rows e = refl
+over_first false true t rows e = refl
+over_first false false true rows e = refl
+over_first false false false rows e = absurd (true≢false (sym e))
+
+refused_by : (l : List Row) (v : Preview) (go : Preview → Result Preview ℕ) (n : ℕ) → first_of l ≡ Some n → previewed l v go ≡ Err n
+refused_by l v go n e = rw (e, previewed)
+
+on_over : (i : Identity) (b : Batch) (was : Log ℕ) → 32 < length b.entries → prepare_on i b was ≡ Err (over_number i)
+unfolding prepare_on batch_rows over_number
+on_over i b was l =
+    refused_by (batch_rows i b was) (record { log = was; lsn = or_zero (λ t. t) was.last_replayed_lsn; records = [] }) (pointed i b was b.snapshot) (over_number i)
+    (over_first (i.group =? 0) (i.replica =? 0) (32 <? length b.entries) (snapshot_without_hard_state b ∷ []) (lt-ltb 32 (length b.entries) l))
+
+pub over_from : Result (Log ℕ) ℕ → Identity → ℕ
+over_from (Ok was) i = over_number i
+over_from (Err n) i = n
+
+pub prepare_over : (w : Recovery) (i : Identity) (b : Batch) → 32 < length b.entries → prepare w i b ≡ Err (over_from (ask (replica_of i) w) i)
+unfolding prepare over_from
+prepare_over w i b l = go (ask (replica_of i) w)
+  where
+    go : (x : Result (Log ℕ) ℕ) → ◌≡◌ {A = Result Preview ℕ} (elim x [ Ok was ↦ prepare_on i b was | Err n ↦ Err n ]) (Err (over_from x i))
+    go (Ok was) = on_over i b was l
+    go (Err n) = refl

@@ -3,8 +3,10 @@
 use Rattle.std.specs.Prelude.{Option, None, Some, Result, Ok, Err}
 use mathlib.Core.Path.{◌≡◌, refl, sym, ap, subst, ◌∙◌}
 use mathlib.Core.List.{List, [], ◌∷◌, ◌++◌}
-use Prim.Native.Nat.{ℕ, ◌+◌, ◌<◌}
-use borrow.Author.Tests.{leb-false}
+use Prim.Native.Nat.{ℕ, ◌+◌, ◌<◌, ◌≤◌}
+use native.Mathlib.Omega.{arith}
+use borrow.Author.Tests.{ltb-false, leb-false}
+use lib.ListN.{length}
 use Rattle.std.specs.Result.{IsErrAnd}
 use Rattle.std.proofs.lemmas.Result.{err_from_is_err_and}
 use Rattle.definition.specs.Table.{Row, first_of, u64_max}
@@ -27,7 +29,8 @@ use Rattle.view.specs.Readers.{last_of}
 use Rattle.batches.specs.declared.RaftPersistenceBatch.{RaftPersistenceBatch}
 use Rattle.preview.specs.declared.Preview.{Preview}
 use Rattle.batches.specs.Checks.{lsn_exhausted, pointer_form_rows, pointer_rows, hard_state_rows, term_rows}
-use Rattle.batches.specs.Meaning.{batch_of}
+use Rattle.batches.specs.Meaning.{entries_of, batch_of}
+use Rattle.batches.proofs.Entries.{entries_count}
 use Rattle.preview.specs.Preview.{Ran, ran_with, ran, formed_by, onward, extend_over, Leaves, Reached, Sits}
 use Rattle.persistence.specs.Prepare.{held_at, moved_down, pointed_with, point_ran, hard_header, hardened_with, harden_ran, conclude_ran, point_in, harden_in, followed, lastly_ran, entries_ran, pointed_ran, prepare_ran, PointedReached, BatchReached}
 use Rattle.persistence.specs.Prepares.{Stands}
@@ -154,6 +157,15 @@ module _ (d : RaftReplicaIdentity) (b : RaftPersistenceBatch) (kept : Option Har
 -- The batch as a whole.
 module _ (d : RaftReplicaIdentity) (b : RaftPersistenceBatch) (lent : List ℕ) (p : Preview) (cs : List ℕ) (a : Result (Unit {0}) Refusal)
     (ea : (lent : List ℕ) (was : D.Log ℕ) → checked_of a ≡ first_of (M.batch_rows (identity_of d) (batch_of b lent) was)) where
+  -- One that 43 does not refuse has at most 32 entries.
+  pub batch_few : a ≡ (Ok tt) → length b.entries.now ≤ 32
+  unfolding M.batch_rows
+  batch_few e =
+      let was : D.Log ℕ = view_of p.head p.entries cs in
+      let w : first_of (M.batch_rows (identity_of d) (batch_of b lent) was) ≡ None = sym (ea lent was) ∙ ap checked_of e in
+      let c = clear (M.batch_rows (identity_of d) (batch_of b lent) was) w in
+      omega (arith, ltb-false 32 (length (entries_of b.entries.now lent)) c.1.1.0, entries_count b.entries.now lent)
+
   pub prepare_out : {why : Refusal} → a ≡ Err why → (q : Result (Unit {0}) Refusal) → IsErrAnd q (λ v. v ≡ why) → Leaves (ran_with q p cs) (prepare_ran d b lent p cs) (BatchReached d b lent p cs)
   unfolding prepare_ran
   prepare_out e q u =

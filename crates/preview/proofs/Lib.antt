@@ -1,3 +1,4 @@
 pub mod Supplied
 pub mod Extending
 pub mod Running
+pub mod Taken

@@ -8,7 +8,7 @@ use native.Mathlib.Omega.{arith}
 use borrow.Author.Tests.{ltb-true}
 use lib.ListN.{length, length-append}
 use lib.Seq.{drop-length}
-use Rattle.std.specs.Prelude.{if◌then◌else◌, Option, None, Ok}
+use Rattle.std.specs.Prelude.{if◌then◌else◌, Option, None, Some, Ok}
 use Rattle.definition.specs.Table.{◌<?◌, first_of}
 use Rattle.ids.specs.declared.Lsn.{Lsn}
 use Rattle.ids.specs.Identity.{identity_of}
@@ -21,11 +21,12 @@ use Rattle.codec.specs.declared.RaftSnapshotPointerRecord.{RaftSnapshotPointerRe
 use Rattle.view.specs.declared.Header.{Header}
 use Rattle.view.specs.declared.RecoveredRaftLogEntry.{RecoveredRaftLogEntry}
 use Rattle.view.specs.Decisions.{pointer_rows_of}
-use Rattle.view.specs.Kept.{cell_for}
+use Rattle.view.specs.Kept.{cell_for, Comparable, Writable}
 use Rattle.view.specs.Meaning.{base_of}
 use Rattle.view.specs.Model.{with_pointer, covered_by, placed_bytes, dropped_bytes}
 use Rattle.view.specs.Readers.{place_of}
 use Rattle.view.proofs.Kept.{kept_cell}
+use Rattle.view.proofs.Readers.{Held, held_at_lem}
 use Rattle.replay.specs.Plan.{look_of, held_term_in, pointed, pointer_plan, Replayable}
 
 pub look_below : (h : Header) (x : ℕ) → look_of h x < 64
@@ -35,7 +36,20 @@ look_below h x = go (x - base_of h <? 64) refl
     go true p = ltb-true _ _ p
     go false p = omega arith
 
+-- A held place is one of 64.
+pub held_below : (h : Header) (x q : ℕ) → place_of h x ≡ Some q → h.len ≤ 64 → q < 64
+held_below h x q e l = let k : Held h x q = held_at_lem h x q e in omega (arith, k.below)
+
 module _ (h : Header) (e : RecoveredRaftLogEntry) (r : RaftLogEntryRecord) (cs lent : List ℕ) (k : Replayable h e r cs lent) where
+  -- A held entry may be compared with the record, and the record's cell may be written.
+  pub comparable : (q : ℕ) → place_of h r.index ≡ Some q → Comparable e.payload cs (64 * q) r.payload lent
+  comparable q p =
+      let l : q < 64 = held_below h r.index q p k.holds.short in
+      record { inside = omega (arith, k.holds.bytes); small = k.holds.small q p; fit = k.fit }
+
+  pub writable : (q : ℕ) → q < 64 → Writable cs (64 * q) r.payload lent
+  writable q l = record { inside = omega (arith, k.holds.bytes); fit = k.fit }
+
   -- A cell was put, then the cells after it were cleared.
   pub placed_is : (q : ℕ) (l : Lsn) (cs' cs'' : List ℕ) → q < 64
       → cs' ≡ splice cs (64 * q) (cell_for r.payload lent)

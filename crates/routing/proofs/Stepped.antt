@@ -2,7 +2,7 @@
 -- Assumes nothing.
 use Rattle.std.specs.Prelude.{Option, None, Some, Result, Ok, Err}
 use mathlib.Core.Path.{◌≡◌, refl, sym, ap, subst, ◌∙◌}
-use mathlib.Core.Bool.{Bool, true, false, ◌&&◌, cond}
+use mathlib.Core.Bool.{Bool, true, false, true≢false, ◌&&◌, cond}
 use mathlib.Core.Logic.{⊎_elim, inl, inr}
 use mathlib.Core.List.{List, [], ◌∷◌}
 use Prim.Native.Nat.{ℕ, ◌+◌, ◌-◌, ◌*◌, ◌<◌, ◌≤◌}
@@ -33,6 +33,7 @@ use Rattle.view.specs.Meaning.{no_entry, id_of}
 use Rattle.view.specs.Model.{empty_header, with_hard_state, with_pointer, covered_by, dropped_entries, dropped_bytes}
 use Rattle.view.specs.Decisions.{entry_answer, hard_state_rows_of, pointer_rows_of}
 use Rattle.view.specs.Readers.{place_of}
+use Rattle.view.proofs.Accepted.{refusing}
 use Rattle.replay.specs.Plan.{identity_in, index_of, look_of, existing_in, prior_in, held_term_in, Plan, entry_plan, unless_row, plan_of, entries_after}
 use Rattle.replay.specs.Settled.{Looks, Settled}
 use Rattle.replay.specs.Settled as R
@@ -59,15 +60,16 @@ use Rattle.routing.proofs.Observe.{stale, stale_observed, observed_is}
 abbrev pub Drops : Header → Plan → Type 0
 Drops h d = 0 < d.dropped → (d.dropped ≤ h.len) × (d.head.len ≡ h.len - d.dropped)
 
-entry_drops : (a : D.Answer) (h : Header) (e : RecoveredRaftLogEntry) (r : RaftLogEntryRecord) (l : Lsn) (cs lent : List ℕ) → Drops h (entry_plan a h e r l cs lent)
-entry_drops D.counted h e r l cs lent x = absurd (omega arith)
-entry_drops D.appended h e r l cs lent x = absurd (omega arith)
-entry_drops D.idempotentReplay h e r l cs lent x = absurd (omega arith)
-entry_drops D.hard_state_kept h e r l cs lent x = absurd (omega arith)
-entry_drops (D.pointer_kept n) h e r l cs lent x = absurd (omega arith)
-entry_drops D.finished h e r l cs lent x = absurd (omega arith)
-entry_drops (D.replaced_suffix m) h e r l cs lent x = absurd (omega arith)
-entry_drops (D.refused n) h e r l cs lent x = absurd (omega arith)
+-- An entry drops none.
+never_drops : (a : D.Answer) (h : Header) (e : RecoveredRaftLogEntry) (r : RaftLogEntryRecord) (l : Lsn) (cs lent : List ℕ) → (entry_plan a h e r l cs lent).dropped ≡ 0
+never_drops D.counted h e r l cs lent = refl
+never_drops D.appended h e r l cs lent = refl
+never_drops D.idempotentReplay h e r l cs lent = refl
+never_drops D.hard_state_kept h e r l cs lent = refl
+never_drops (D.pointer_kept n) h e r l cs lent = refl
+never_drops D.finished h e r l cs lent = refl
+never_drops (D.replaced_suffix m) h e r l cs lent = refl
+never_drops (D.refused n) h e r l cs lent = refl
 
 unless_drops : (o : Option ℕ) (h : Header) (e : RecoveredRaftLogEntry) (cs : List ℕ) (d : Plan) → Drops h d → Drops h (unless_row o h e cs d)
 unless_drops (Some n) h e cs d f x = absurd (omega arith)
@@ -75,9 +77,8 @@ unless_drops None h e cs d f x = f x
 
 pub plan_drops : (h : Header) (e b : RecoveredRaftLogEntry) (k : RaftWalRecord) (l : Lsn) (cs lent : List ℕ) → Drops h (plan_of h e b k l cs lent)
 plan_drops h e b (W.Entry r) l cs lent =
-    entry_drops
-    (entry_answer h (existing_in (place_of h r.index) e cs r lent) (prior_in (place_of h (r.index - 1)) h.snapshot_term b.term) r.index r.term)
-    h e r l cs lent
+    let a : D.Answer = entry_answer h (existing_in (place_of h r.index) e cs r lent) (prior_in (place_of h (r.index - 1)) h.snapshot_term b.term) r.index r.term in
+    λ x. absurd (omega (arith, never_drops a h e r l cs lent))
 plan_drops h e b (W.HardState r) l cs lent =
     let d : Plan = record { answer = D.hard_state_kept; head = with_hard_state h r.hard_state l; entry = e; dropped = 0; bytes = cs } in
     unless_drops (first_of (hard_state_rows_of h r.hard_state)) h e cs d (λ x. absurd (omega arith))
@@ -85,6 +86,54 @@ plan_drops h e b (W.SnapshotPointer p) l cs lent =
     let n : ℕ = covered_by h p.last_included_index in
     let d : Plan = record { answer = D.pointer_kept n; head = with_pointer h p l n; entry = e; dropped = n; bytes = dropped_bytes cs n } in
     unless_drops (first_of (pointer_rows_of (identity_of p.identity) h p (held_term_in (place_of h p.last_included_index) e.term))) h e cs d (λ x. (omega arith, refl))
+
+-- A refused record drops nothing.
+row_drops : (o : Option ℕ) (h : Header) (e : RecoveredRaftLogEntry) (cs : List ℕ) (d : Plan) → refusing d.answer ≡ false → (n : ℕ) → (unless_row o h e cs d).answer ≡ D.refused n
+    → (unless_row o h e cs d).dropped ≡ 0
+row_drops (Some m) h e cs d f n w = refl
+row_drops None h e cs d f n w = absurd (true≢false (sym (ap refusing w) ∙ f))
+
+pub plan_refused : (h : Header) (e b : RecoveredRaftLogEntry) (k : RaftWalRecord) (l : Lsn) (cs lent : List ℕ) (n : ℕ) → (plan_of h e b k l cs lent).answer ≡ D.refused n
+    → (plan_of h e b k l cs lent).dropped ≡ 0
+plan_refused h e b (W.Entry r) l cs lent n w =
+    never_drops
+    (entry_answer h (existing_in (place_of h r.index) e cs r lent) (prior_in (place_of h (r.index - 1)) h.snapshot_term b.term) r.index r.term)
+    h e r l cs lent
+plan_refused h e b (W.HardState r) l cs lent n w =
+    let d : Plan = record { answer = D.hard_state_kept; head = with_hard_state h r.hard_state l; entry = e; dropped = 0; bytes = cs } in
+    row_drops (first_of (hard_state_rows_of h r.hard_state)) h e cs d refl n w
+plan_refused h e b (W.SnapshotPointer p) l cs lent n w =
+    let m : ℕ = covered_by h p.last_included_index in
+    let d : Plan = record { answer = D.pointer_kept m; head = with_pointer h p l m; entry = e; dropped = m; bytes = dropped_bytes cs m } in
+    row_drops (first_of (pointer_rows_of (identity_of p.identity) h p (held_term_in (place_of h p.last_included_index) e.term))) h e cs d refl n w
+
+-- A plan keeps its replica's identity.
+entry_keeps : (a : D.Answer) (h : Header) (e : RecoveredRaftLogEntry) (r : RaftLogEntryRecord) (l : Lsn) (cs lent : List ℕ) → (entry_plan a h e r l cs lent).head.identity ≡ h.identity
+entry_keeps D.counted h e r l cs lent = refl
+entry_keeps D.appended h e r l cs lent = refl
+entry_keeps D.idempotentReplay h e r l cs lent = refl
+entry_keeps D.hard_state_kept h e r l cs lent = refl
+entry_keeps (D.pointer_kept n) h e r l cs lent = refl
+entry_keeps D.finished h e r l cs lent = refl
+entry_keeps (D.replaced_suffix m) h e r l cs lent = refl
+entry_keeps (D.refused n) h e r l cs lent = refl
+
+unless_keeps : (o : Option ℕ) (h : Header) (e : RecoveredRaftLogEntry) (cs : List ℕ) (d : Plan) → d.head.identity ≡ h.identity → (unless_row o h e cs d).head.identity ≡ h.identity
+unless_keeps (Some n) h e cs d f = refl
+unless_keeps None h e cs d f = f
+
+pub plan_keeps : (h : Header) (e b : RecoveredRaftLogEntry) (k : RaftWalRecord) (l : Lsn) (cs lent : List ℕ) → (plan_of h e b k l cs lent).head.identity ≡ h.identity
+plan_keeps h e b (W.Entry r) l cs lent =
+    entry_keeps
+    (entry_answer h (existing_in (place_of h r.index) e cs r lent) (prior_in (place_of h (r.index - 1)) h.snapshot_term b.term) r.index r.term)
+    h e r l cs lent
+plan_keeps h e b (W.HardState r) l cs lent =
+    let d : Plan = record { answer = D.hard_state_kept; head = with_hard_state h r.hard_state l; entry = e; dropped = 0; bytes = cs } in
+    unless_keeps (first_of (hard_state_rows_of h r.hard_state)) h e cs d refl
+plan_keeps h e b (W.SnapshotPointer p) l cs lent =
+    let n : ℕ = covered_by h p.last_included_index in
+    let d : Plan = record { answer = D.pointer_kept n; head = with_pointer h p l n; entry = e; dropped = n; bytes = dropped_bytes cs n } in
+    unless_keeps (first_of (pointer_rows_of (identity_of p.identity) h p (held_term_in (place_of h p.last_included_index) e.term))) h e cs d refl
 
 -- From one block to the state.
 module _ (s : RecoveredRaftStorage) (st : List ℕ) (p : ℕ) (k : Linked s st) (lt : p < s.held) where

@@ -118,6 +118,20 @@ held_at_lem h x q = go (base_of h ≤? x) (x - base_of h <? h.len) refl refl
 
 -- What the rows of an index that is not held leave: the index is the next (30), there is room (32), and its place is the one after the
 -- last entry.
+-- The index after the last is the place after the last entry.
+pub place_next : (h : Header) (x : ℕ) → x ≡ last_of h + 1 → x ≤ u64_max → x - base_of h ≡ h.len
+place_next h x next small = go (h.len =? 0) refl
+  where
+    go : (b : Bool) → (h.len =? 0) ≡ b → x - base_of h ≡ h.len
+    go true t =
+        let last : last_of h ≡ h.snapshot_index = rw t in
+        let z : h.len ≡ 0 = eqb-true h.len 0 t in
+        omega arith
+    go false t =
+        let last : last_of h ≡ last_entry_of h = rw t in
+        let z : h.len ≡ 0 → ⊥ = eqb-false h.len 0 t in
+        omega arith
+
 pub record Appends (h : Header) (x : ℕ) : Type 0 where
   pub next : x ≡ last_of h + 1
   pub room : h.len < 64
@@ -127,14 +141,4 @@ pub appends : (h : Header) (prior x term : ℕ) → x ≤ u64_max → first_of (
 appends h prior x term small n =
     let k : Clear (new_rows h prior x term) = clear (new_rows h prior x term) n in
     let next : x ≡ last_of h + 1 = eqb-true x (last_of h + 1) (not-false (x =? last_of h + 1) k.1.0) in
-    record { next = next; room = leb-false 64 h.len k.1.1.1.0; place = place next (h.len =? 0) refl }
-  where
-    place : x ≡ last_of h + 1 → (b : Bool) → (h.len =? 0) ≡ b → x - base_of h ≡ h.len
-    place next true t =
-        let last : last_of h ≡ h.snapshot_index = rw t in
-        let z : h.len ≡ 0 = eqb-true h.len 0 t in
-        omega arith
-    place next false t =
-        let last : last_of h ≡ last_entry_of h = rw t in
-        let z : h.len ≡ 0 → ⊥ = eqb-false h.len 0 t in
-        omega arith
+    record { next = next; room = leb-false 64 h.len k.1.1.1.0; place = place_next h x next small }
