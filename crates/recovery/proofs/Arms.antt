@@ -10,6 +10,7 @@ use lib.ListN.{length, get_or, set, take, drop}
 use lib.Seq.{paste}
 use Rattle.definition.specs.Table.{first_of}
 use Rattle.definition.specs.Log as D
+use Rattle.definition.specs.Recovery.{refusal_of}
 use Rattle.ids.specs.Identity.{identity_of}
 use Rattle.store.proofs.Part.{set_self}
 use Rattle.codec.specs.declared.RaftSnapshotPointerRecord.{RaftSnapshotPointerRecord}
@@ -29,9 +30,17 @@ use Rattle.ids.specs.Refusal.{number_of}
 use Rattle.codec.specs.declared.RaftLogEntryRecord.{RaftLogEntryRecord}
 use Rattle.view.specs.declared.Header.{Header}
 use Rattle.view.specs.declared.RaftLogReplayOutcome.{RaftLogReplayOutcome}
+use Rattle.view.specs.declared.RaftLogReplayOutcome.TheVariants as A
 use Rattle.view.specs.declared.RecoveredRaftLogEntry.{RecoveredRaftLogEntry}
 use Rattle.view.specs.Decisions.{outcome_of, pointer_rows_of}
 use Rattle.replay.specs.Plan.{look_of, held_term_in, Plan, decided, as_it_was, entry_plan, entry_written, replay_plan, unless_row, pointed, pointer_plan}
+
+-- An entry that is accepted answers no refusal.
+pub entry_accepted : (v : RaftLogReplayOutcome) (h : Header) (e : RecoveredRaftLogEntry) (r : RaftLogEntryRecord) (l : Lsn) (cs lent : List ℕ)
+    → refusal_of (entry_plan (outcome_of (Ok v)) h e r l cs lent).answer ≡ None
+entry_accepted A.Appended h e r l cs lent = refl
+entry_accepted A.IdempotentReplay h e r l cs lent = refl
+entry_accepted (A.ReplacedSuffix m) h e r l cs lent = refl
 
 -- An entry that is decided is refused, or written.
 module _ (h : Header) (e b : RecoveredRaftLogEntry) (r : RaftLogEntryRecord) (l : Lsn) (cs lent : List ℕ) where

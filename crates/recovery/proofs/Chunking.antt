@@ -46,14 +46,14 @@ refused_answer : (b : Result Observation Refusal) → true ≡ is_err b → (n :
 refused_answer (Ok v) e = absurd (true≢false e)
 refused_answer (Err w) e = (number_of w, refl)
 
-taken_answer : (b : Result Observation Refusal) → false ≡ is_err b → refusal_of (answer_of b) ≡ None
-taken_answer (Ok O.Counted) e = refl
-taken_answer (Ok O.Appended) e = refl
-taken_answer (Ok O.IdempotentReplay) e = refl
-taken_answer (Ok (O.ReplacedSuffix r)) e = refl
-taken_answer (Ok O.HardStateKept) e = refl
-taken_answer (Ok (O.PointerKept n)) e = refl
-taken_answer (Err w) e = absurd (true≢false (sym e))
+pub not_refused : (b : Result Observation Refusal) → false ≡ is_err b → refusal_of (answer_of b) ≡ None
+not_refused (Ok O.Counted) e = refl
+not_refused (Ok O.Appended) e = refl
+not_refused (Ok O.IdempotentReplay) e = refl
+not_refused (Ok (O.ReplacedSuffix r)) e = refl
+not_refused (Ok O.HardStateKept) e = refl
+not_refused (Ok (O.PointerKept n)) e = refl
+not_refused (Err w) e = absurd (true≢false (sym e))
 
 module _ (s : RecoveredRaftStorage) (st : List ℕ) (rs : List WalRecord) (lent : List ℕ) (t : RecoveredRaftStorage) (u : List ℕ) (b : Result Observation Refusal) (i : ℕ) (k : Chunking s st rs lent t u (answer_of b) i) where
   pub chunk_end : length rs ≤ i → Runs s st rs lent (record { taken = i; answer = b; state = t }) u
@@ -82,8 +82,8 @@ module _ (s : RecoveredRaftStorage) (st : List ℕ) (rs : List WalRecord) (lent 
           eight = k.eight;
           all = k.all;
           sound = k.sound;
-          running = running_takes s st rs lent t u (answer_of b) i k.running z r lt refl next x means machine (taken_answer b' e) ready;
-          accepted = taken_answer b' e;
+          running = running_takes s st rs lent t u (answer_of b) i k.running z r lt refl next x means machine (not_refused b' e) ready;
+          accepted = not_refused b' e;
         }
 
     pub chunk_refused : true ≡ is_err b' → Runs s st rs lent (record { taken = i; answer = b'; state = t' }) u'

@@ -8,7 +8,7 @@ use Rattle.definition.specs.Log as D
 use Rattle.replay.specs.Plan.{index_of, look_of, Plan, as_it_was, plan_of, Holds, Settleable}
 use Rattle.storage.specs.Model.{no_header, head_at, bytes_in, with_head, changed_store}
 use Rattle.routing.specs.Observe.{Stepped, moved_entries, written, plan_at}
-use Rattle.routing.proofs.Stepped.{Drops, plan_drops}
+use Rattle.routing.proofs.Stepped.{Drops, plan_drops, plan_keeps}
 use mathlib.Core.List.{List}
 use Prim.Native.Nat.{ℕ, ◌+◌, ◌-◌, ◌*◌, ◌<◌, ◌≤◌}
 use native.Mathlib.Omega.{arith}
@@ -38,7 +38,14 @@ use Rattle.view.proofs.Readers.{Held, held_at_lem}
 use Rattle.replay.proofs.Settled.{look_held}
 use Rattle.storage.specs.declared.RecoveredRaftStorage.{RecoveredRaftStorage}
 use Rattle.storage.specs.Meaning.{Linked}
+use Rattle.storage.specs.Place.{owners_of}
+use Rattle.storage.proofs.Place.{owners_set}
 use Rattle.routing.specs.Admits.{index_in}
+
+-- A plan leaves each place its replica.
+pub owners_kept : (t : RecoveredRaftStorage) (p : ℕ) (e b : RecoveredRaftLogEntry) (k : RaftWalRecord) (l : Lsn) (cs lent : List ℕ)
+    → owners_of (set t.heads p (plan_of (head_at t p) e b k l cs lent).head) ≡ owners_of t.heads
+owners_kept t p e b k l cs lent = owners_set t.heads p (plan_of (head_at t p) e b k l cs lent).head (plan_keeps (head_at t p) e b k l cs lent)
 
 -- A machine's record fits: its index is a 64-bit number.
 pub fits_record : (r : WalRecord) (lent : List ℕ) → index_in r.body < 18446744073709551616 → fits (record_of r lent) ≡ true
