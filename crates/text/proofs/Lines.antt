@@ -1,4 +1,4 @@
--- A line up to its newline, and a line in two pieces.
+-- A line up to its newline, a field at a time, and in two pieces.
 -- Assumes nothing.
 use mathlib.Core.Path.{◌≡◌, refl, sym, ap, ◌∙◌}
 use mathlib.Core.Bool.{Bool, true, false, not, cond}
@@ -14,7 +14,7 @@ use lib.Seq.{length-take-le, take_all}
 use Rattle.std.specs.Prelude.{if◌then◌else◌, None, Some, option_map, unwrap_or}
 use Rattle.std.specs.List.{position_or_len}
 use Rattle.definition.specs.Table.{◌=?◌, ◌<?◌}
-use Rattle.text.specs.Field.{pushed_field, pushed_sum, word, fed_field, fed_sum}
+use Rattle.text.specs.Field.{pushed_field, pushed_sum, up_to_space, fed_field, fed_sum}
 use Rattle.text.specs.Line.{closed, extended, extended_by, pushed, fed, piece, has_newline, newline_at, taken}
 use Rattle.text.specs.declared.line.Line.{Line}
 
@@ -79,43 +79,43 @@ one_more l b s = go (l.count <? 10)
     go true = refl
     go false = refl
 
-pub by_word : (l : Line) (s : List ℕ) → fed l s ≡ fed (extended_by l (word s)) (drop (length (word s)) s)
-unfolding fed word
-by_word l [] = sym (none_more l)
-by_word l (b ∷ s) = go (b =? 32) refl (λ m. by_word m s)
+pub by_field : (l : Line) (s : List ℕ) → fed l s ≡ fed (extended_by l (up_to_space s)) (drop (length (up_to_space s)) s)
+unfolding fed up_to_space
+by_field l [] = sym (none_more l)
+by_field l (b ∷ s) = go (b =? 32) refl (λ m. by_field m s)
   where
-    go : (x : Bool) → (b =? 32) ≡ x → ((m : Line) → fed m s ≡ fed (extended_by m (word s)) (drop (length (word s)) s))
-        → fed (if x then closed l else extended l b) s ≡ fed (extended_by l (if x then [] else b ∷ word s)) (drop (length (if x then [] else b ∷ word s)) (b ∷ s))
+    go : (x : Bool) → (b =? 32) ≡ x → ((m : Line) → fed m s ≡ fed (extended_by m (up_to_space s)) (drop (length (up_to_space s)) s))
+        → fed (if x then closed l else extended l b) s ≡ fed (extended_by l (if x then [] else b ∷ up_to_space s)) (drop (length (if x then [] else b ∷ up_to_space s)) (b ∷ s))
     go true e r = rw (none_more l, e) refl
-    go false e r = r (extended l b) ∙ ap (λ (m : Line). fed m (drop (length (word s)) s)) (one_more l b (word s))
+    go false e r = r (extended l b) ∙ ap (λ (m : Line). fed m (drop (length (up_to_space s)) s)) (one_more l b (up_to_space s))
 
-pub word_within : (s : List ℕ) → length (word s) ≤ length s
-unfolding word
-word_within [] = omega arith
-word_within (b ∷ s) = go (b =? 32) (word_within s)
+pub field_within : (s : List ℕ) → length (up_to_space s) ≤ length s
+unfolding up_to_space
+field_within [] = omega arith
+field_within (b ∷ s) = go (b =? 32) (field_within s)
   where
-    go : (x : Bool) → length (word s) ≤ length s → length (if x then [] else b ∷ word s) ≤ suc (length s)
+    go : (x : Bool) → length (up_to_space s) ≤ length s → length (if x then [] else b ∷ up_to_space s) ≤ suc (length s)
     go true r = omega arith
     go false r = omega arith
 
-pub take_word : (s : List ℕ) → take (length (word s)) s ≡ word s
-unfolding word
-take_word [] = refl
-take_word (b ∷ s) = go (b =? 32) (take_word s)
+pub take_field : (s : List ℕ) → take (length (up_to_space s)) s ≡ up_to_space s
+unfolding up_to_space
+take_field [] = refl
+take_field (b ∷ s) = go (b =? 32) (take_field s)
   where
-    go : (x : Bool) → take (length (word s)) s ≡ word s → take (length (if x then [] else b ∷ word s)) (b ∷ s) ≡ (if x then [] else b ∷ word s)
+    go : (x : Bool) → take (length (up_to_space s)) s ≡ up_to_space s → take (length (if x then [] else b ∷ up_to_space s)) (b ∷ s) ≡ (if x then [] else b ∷ up_to_space s)
     go true r = refl
     go false r = ap (λ (t : List ℕ). b ∷ t) r
 
 -- a space stands behind it, where a byte does
-behind : (s : List ℕ) → length (word s) < length s → drop (length (word s)) s ≡ 32 ∷ drop (suc (length (word s))) s
-unfolding word
+behind : (s : List ℕ) → length (up_to_space s) < length s → drop (length (up_to_space s)) s ≡ 32 ∷ drop (suc (length (up_to_space s))) s
+unfolding up_to_space
 behind [] h = absurd (omega arith)
 behind (b ∷ s) h = go (b =? 32) refl (behind s) h
   where
-    go : (x : Bool) → (b =? 32) ≡ x → (length (word s) < length s → drop (length (word s)) s ≡ 32 ∷ drop (suc (length (word s))) s)
-        → length (if x then [] else b ∷ word s) < suc (length s)
-        → drop (length (if x then [] else b ∷ word s)) (b ∷ s) ≡ 32 ∷ drop (suc (length (if x then [] else b ∷ word s))) (b ∷ s)
+    go : (x : Bool) → (b =? 32) ≡ x → (length (up_to_space s) < length s → drop (length (up_to_space s)) s ≡ 32 ∷ drop (suc (length (up_to_space s))) s)
+        → length (if x then [] else b ∷ up_to_space s) < suc (length s)
+        → drop (length (if x then [] else b ∷ up_to_space s)) (b ∷ s) ≡ 32 ∷ drop (suc (length (if x then [] else b ∷ up_to_space s))) (b ∷ s)
     go true e r h = ap (λ (n : ℕ). n ∷ s) (eqb-true b 32 e)
     go false e r h = r (omega arith)
 
@@ -124,20 +124,20 @@ pub drop_end : (s : List ℕ) (i : ℕ) → length s ≤ i → drop i s ≡ []
 drop_end s i h = drop_of_length-le s h
 
 -- the walk: the first field, each next one behind its space, and the end
-pub first_word : (l : Line) (s : List ℕ) {m : Line} {n : ℕ} → m ≡ extended_by l (word s) → n ≡ length (word s) → fed l s ≡ fed m (drop n s)
-first_word l s em en = rw (em, en) (by_word l s)
+pub first_field : (l : Line) (s : List ℕ) {m : Line} {n : ℕ} → m ≡ extended_by l (up_to_space s) → n ≡ length (up_to_space s) → fed l s ≡ fed m (drop n s)
+first_field l s em en = rw (em, en) (by_field l s)
 
-pub next_word : (l : Line) (s : List ℕ) (n : ℕ) {k m : Line} {t : List ℕ} {n' : ℕ} → n ≡ length (word s) → n < length s → t ≡ take (length s - (n + 1)) (drop (n + 1) s)
-    → k ≡ closed l → m ≡ extended_by k (word t) → n' ≡ length (word t) → fed l (drop n s) ≡ fed m (drop n' t)
+pub next_field : (l : Line) (s : List ℕ) (n : ℕ) {k m : Line} {t : List ℕ} {n' : ℕ} → n ≡ length (up_to_space s) → n < length s → t ≡ take (length s - (n + 1)) (drop (n + 1) s)
+    → k ≡ closed l → m ≡ extended_by k (up_to_space t) → n' ≡ length (up_to_space t) → fed l (drop n s) ≡ fed m (drop n' t)
 unfolding fed
-next_word l s n {k} {m} {t} en h et ek em en' =
+next_field l s n {k} {m} {t} en h et ek em en' =
     let all : take (length s - (n + 1)) (drop (n + 1) s) ≡ drop (n + 1) s = take_all (length s - (n + 1)) (drop (n + 1) s) (omega (arith, length-drop (n + 1) s)) in
-    let d : drop n s ≡ 32 ∷ t = rw (et, all, en, add-one (length (word s))) (behind s (omega (arith, en))) in
-    rw (d, ← ek) (first_word k t em en')
+    let d : drop n s ≡ 32 ∷ t = rw (et, all, en, add-one (length (up_to_space s))) (behind s (omega (arith, en))) in
+    rw (d, ← ek) (first_field k t em en')
 
-pub last_word : (l : Line) (s : List ℕ) (n : ℕ) → length s ≤ n → fed l (drop n s) ≡ l
+pub last_field : (l : Line) (s : List ℕ) (n : ℕ) → length s ≤ n → fed l (drop n s) ≡ l
 unfolding fed
-last_word l s n h = rw (drop_end s n h) refl
+last_field l s n h = rw (drop_end s n h) refl
 
 -- bytes without a newline are all of the line, and it goes on behind them
 pub piece_all : (a : List ℕ) → has_newline a ≡ false → piece a ≡ a

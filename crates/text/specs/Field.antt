@@ -58,9 +58,9 @@ unfoldable pub pushed_sum : Sum → ℕ → Sum
 pushed_sum s b = record { len = counted 65 s.len; checksum = pushed_checksum s.len s.checksum b }
 
 -- up to the space or the end
-unfoldable pub word : List ℕ → List ℕ
-word [] = []
-word (b ∷ s) = if b =? 32 then [] else b ∷ word s
+unfoldable pub up_to_space : List ℕ → List ℕ
+up_to_space [] = []
+up_to_space (b ∷ s) = if b =? 32 then [] else b ∷ up_to_space s
 
 -- all of s
 unfoldable pub fed_field : Field → List ℕ → Field

@@ -1,8 +1,8 @@
-// One field of a line, byte by byte: what number and what word it is, and what checksum.
-#![tactic(auto, using(crate::proofs::Lines::drop_end), unfolding(crate::specs::Text::hex_digit, crate::specs::Field::pushed_field, crate::specs::Field::pushed_sum, crate::specs::Field::word, crate::specs::Field::fed_field, crate::specs::Field::fed_sum))]
+// One field of a line, as its bytes come: what number and what word it is, and what checksum.
+#![tactic(auto, using(crate::proofs::Lines::drop_end), unfolding(crate::specs::Text::hex_digit, crate::specs::Field::pushed_field, crate::specs::Field::pushed_sum, crate::specs::Field::up_to_space, crate::specs::Field::fed_field, crate::specs::Field::fed_sum))]
 
 ghost use Rattle.std.specs.Prelude.{◌≡◌, ◌<◌, length};
-ghost use Rattle.text.specs.Field.{hex_of, pushed_digit, pushed_field, word, fed_field, shifted_checksum, pushed_sum, fed_sum, blank_field, blank_sum, number_on, version_on, word_field, vote_on, checksum_on};
+ghost use Rattle.text.specs.Field.{hex_of, pushed_digit, pushed_field, up_to_space, fed_field, shifted_checksum, pushed_sum, fed_sum, blank_field, blank_sum, number_on, version_on, word_field, vote_on, checksum_on};
 
 use codec::Checksum;
 use ids::ReplicaId;
@@ -69,11 +69,11 @@ impl Field {
         }
     }
 
-    // Reads on to the space or the end of the bytes: how many of them it took. Length and number stand beside the array while they
-    // are read, so that no byte waits for a write.
+    // Reads on to the space or the end of the bytes: how many of them it took. Length and number stand beside the array, so that
+    // they are not written and read back for each byte.
     pub fn read(&mut self, bytes: &[u8]) -> usize
-        ensures field { self.new ≡ fed_field self.old (word bytes.now) }
-        ensures end { result ≡ length (word bytes.now) }
+        ensures field { self.new ≡ fed_field self.old (up_to_space bytes.now) }
+        ensures end { result ≡ length (up_to_space bytes.now) }
     {
         let mut len = self.len;
         let mut number = self.number;

@@ -1,8 +1,8 @@
 // One line, in pieces of any size.
-#![tactic(auto, using(crate::proofs::Lines::end_within, crate::proofs::Lines::piece_is, crate::proofs::Lines::drop_end, crate::proofs::Lines::word_within, crate::proofs::Lines::take_word), unfolding(crate::specs::Line::closed))]
+#![tactic(auto, using(crate::proofs::Lines::end_within, crate::proofs::Lines::field_within, crate::proofs::Lines::take_field), unfolding(crate::specs::Line::closed))]
 
 ghost use Rattle.std.specs.Prelude.{◌≡◌, length};
-ghost use Rattle.text.specs.Field.{word};
+ghost use Rattle.text.specs.Field.{up_to_space};
 ghost use Rattle.text.specs.Line.{blank_line, closed, extended_by, fed, piece, newline_at, taken};
 
 use crate::field::{Field, Sum};
@@ -55,10 +55,10 @@ impl Line {
         self.field = Field::blank();
     }
 
-    // Reads on to the space or the end of the bytes: how many of them it took.
+    // The open field goes on, up to the space or the end of the bytes: how many of them it took.
     fn extend(&mut self, bytes: &[u8]) -> usize
-        ensures line { self.new ≡ extended_by self.old (word bytes.now) }
-        ensures end { result ≡ length (word bytes.now) }
+        ensures line { self.new ≡ extended_by self.old (up_to_space bytes.now) }
+        ensures end { result ≡ length (up_to_space bytes.now) }
     {
         let n = self.field.read(bytes);
         if 10 <= self.count {
@@ -75,6 +75,7 @@ impl Line {
         let end = newline_at(bytes);
         let mut rest = &bytes[..end.unwrap_or(bytes.len())];
         let mut n = self.extend(rest);
+        // No `for`: each field says where the next one begins.
         while n < rest.len() {
             self.close();
             rest = &rest[n + 1..];
