@@ -16,6 +16,15 @@ use Rattle.soundness.proofs.Sound.{test_sound}
 use Rattle.readers.specs.Own.{Passes}
 use Rattle.readers.specs.Reads.{Reads}
 
+pub reads_whole : {A : Type 0} {s : RecoveredRaftStorage} {st : List ℕ} {f : State → A} {r : Result A ℕ} → sound_test s st ≡ true → sound (recovery_of s st) ≡ true
+    → Ok (f (meaning s st)) ≡ r → Reads s st f r
+reads_whole {s = s} {st = st} {f = f} t w e =
+    record {
+      means = λ t'. ask_sound f (recovery_of s st) w ∙ e;
+      refused = λ t'. absurd (true≢false (sym t ∙ t'));
+      unsound = λ u. absurd (true≢false (sym w ∙ u));
+    }
+
 -- What the code's test says.
 module _ {s : RecoveredRaftStorage} {st : List ℕ} {b : Bool} (k : Passes s st b) where
   pub test_passed : b ≡ true → sound_test s st ≡ true
@@ -32,9 +41,4 @@ module _ {s : RecoveredRaftStorage} {st : List ℕ} {b : Bool} (k : Passes s st 
   few_held q = leb-true s.held 8 (all_facts (sound_clauses s st) (test_passed q)).1.0
 
   pub reads_sound : {A : Type 0} {f : State → A} {r : Result A ℕ} → b ≡ true → Ok (f (meaning s st)) ≡ r → Reads s st f r
-  reads_sound {f = f} q e =
-      record {
-        means = λ t. ask_sound f (recovery_of s st) (whole q) ∙ e;
-        refused = λ t. absurd (true≢false (sym (test_passed q) ∙ t));
-        unsound = λ u. absurd (true≢false (sym (whole q) ∙ u));
-      }
+  reads_sound q e = reads_whole (test_passed q) (whole q) e

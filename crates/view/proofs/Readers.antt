@@ -116,8 +116,6 @@ held_at_lem h x q = go (base_of h ≤? x) (x - base_of h <? h.len) refl refl
     go true false p r e = absurd (let z : ◌≡◌ {A = ℕ} 0 1 = cc in omega arith)
     go false b p r e = absurd (let z : ◌≡◌ {A = ℕ} 0 1 = cc in omega arith)
 
--- What the rows of an index that is not held leave: the index is the next (30), there is room (32), and its place is the one after the
--- last entry.
 -- The index after the last is the place after the last entry.
 pub place_next : (h : Header) (x : ℕ) → x ≡ last_of h + 1 → x ≤ u64_max → x - base_of h ≡ h.len
 place_next h x next small = go (h.len =? 0) refl
@@ -132,6 +130,8 @@ place_next h x next small = go (h.len =? 0) refl
         let z : h.len ≡ 0 → ⊥ = eqb-false h.len 0 t in
         omega arith
 
+-- What the rows of an index that is not held leave: the index is the next (30), there is room (32), and its place is the one after the
+-- last entry.
 pub record Appends (h : Header) (x : ℕ) : Type 0 where
   pub next : x ≡ last_of h + 1
   pub room : h.len < 64
